@@ -1,0 +1,19 @@
+-- The rulebook: document 01 in its own order and words, a file for each part of the paper.
+pub mod Bits
+pub mod Words
+pub mod Names
+pub mod Rules
+pub mod Cntp
+pub mod Cntv
+pub mod Counters
+pub mod El2
+pub mod Verdicts
+pub mod Arithmetic
+pub mod Timers
+pub mod Counts
+pub mod Values
+pub mod Answers
+pub mod Context
+pub mod Access
+pub mod Lines
+pub mod Readings

@@ -1,0 +1,17 @@
+// What a gate says of an access: where it traps, or the one register that it reaches.
+use crate::name::Part;
+use crate::state::TimerName;
+
+pub enum Target {
+    Cntpct,
+    Cntvct,
+    Cntvoff,
+    Timer(TimerName, Part),
+}
+
+pub enum Verdict {
+    Undefined,
+    ToEl1,
+    ToEl2,
+    Reaches(Target),
+}
