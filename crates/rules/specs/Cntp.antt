@@ -25,8 +25,8 @@ module _ (f : Facts) where
       ∷ []
 
   -- EL1: EL2 on and the EL1 bit (PCEN for E2H 0, PTEN for E2H 1) 0: EL2
-  abbrev pub el1Bit : Bool → Bool → List Rule
-  el1Bit el1pcen el1pten = (on && not (cond e2h el1pten el1pcen)) ⇒ ToEl2 ∷ []
+  abbrev pub el1Rule : Bool → Bool → List Rule
+  el1Rule el1pcen el1pten = (on && not (cond e2h el1pten el1pcen)) ⇒ ToEl2 ∷ []
 
   abbrev pub cntpEl0 : Part → Verdict
   cntpEl0 p =
@@ -38,7 +38,7 @@ module _ (f : Facts) where
       (timer Cntp p))  -- (g)
 
   abbrev pub cntpEl1 : Part → Verdict
-  cntpEl1 p = first (el1Bit (cnthctl .el1pcen) (cnthctl .el1pten)) (timer Cntp p)
+  cntpEl1 p = first (el1Rule (cnthctl .el1pcen) (cnthctl .el1pten)) (timer Cntp p)
 
   abbrev pub cntpEl2 : Part → Verdict
   cntpEl2 p =

@@ -6,7 +6,7 @@ use Rattle.rules.specs.declared.verdict.Target.the-variants.{Cntpct, Cnt
 use Rattle.rules.specs.declared.verdict.Verdict.{Verdict}
 use Rattle.rules.specs.declared.verdict.Verdict.the-variants.{Undefined, ToEl2, Reaches}
 use Rattle.rules.specs.Rules.{_⇒_, first, atLevel}
-use Rattle.rules.specs.Cntp.{aToD, el1Bit}
+use Rattle.rules.specs.Cntp.{aToD, el1Rule}
 use Rattle.rules.specs.Cntv.{aToC}
 
 module _ (f : Facts) where
@@ -18,7 +18,7 @@ module _ (f : Facts) where
 
   -- EL1: likewise with EL1PCTEN
   abbrev pub cntpctEl1 : Verdict
-  cntpctEl1 = first (el1Bit f (cnthctl .el1pcten) (cnthctl .el1pcten)) (Reaches Cntpct)
+  cntpctEl1 = first (el1Rule f (cnthctl .el1pcten) (cnthctl .el1pcten)) (Reaches Cntpct)
 
   unfoldable pub cntpct : Verdict
   cntpct = atLevel level cntpctEl0 cntpctEl1 (Reaches Cntpct) (Reaches Cntpct)
