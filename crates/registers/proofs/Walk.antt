@@ -18,14 +18,14 @@ abbrev pub foundFrom : List Register → ℕ → ℕ → Lookup
 foundFrom rs i word = lookUp (map rowOf (drop i rs)) word
 
 module _ (rs : List Register) (i word : ℕ) (d : Register) where
-  turn : i < length rs → foundFrom rs i word ≡ cond (isNamedBy (rowOf (getD rs i d)) word) (Lookup.Known (getD rs i d .name)) (foundFrom rs (suc i) word)
+  turn : i < length rs → foundFrom rs i word ≡ cond (isNamedBy (rowOf (getD rs i d)) word) (Lookup.Named (getD rs i d .name)) (foundFrom rs (suc i) word)
   turn h = ap (λ (l : List Register). lookUp (map rowOf l) word) (drop-cons rs i d h)
 
-  pub found : i < length rs → isNamedBy (rowOf (getD rs i d)) word ≡ true → foundFrom rs i word ≡ Lookup.Known (getD rs i d .name)
+  pub found : i < length rs → isNamedBy (rowOf (getD rs i d)) word ≡ true → foundFrom rs i word ≡ Lookup.Named (getD rs i d .name)
   found h e = turn h ∙ simp e
 
   pub passed : i < length rs → isNamedBy (rowOf (getD rs i d)) word ≡ false → foundFrom rs i word ≡ foundFrom rs (i + 1) word
   passed h e = turn h ∙ simp (e, add-one)
 
-pub ended : (rs : List Register) (i word : ℕ) → length rs ≤ i → foundFrom rs i word ≡ Lookup.Unknown
+pub ended : (rs : List Register) (i word : ℕ) → length rs ≤ i → foundFrom rs i word ≡ Lookup.NotNamed
 ended rs i word h = ap (λ (l : List Register). lookUp (map rowOf l) word) (drop-of-length-le rs h)

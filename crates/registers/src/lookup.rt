@@ -27,20 +27,20 @@ impl Register {
             let register = all[i];
             if register.is_named_by(word) {
                 let name = register.name;
-                return Lookup::Known(name);
+                return Lookup::Named(name);
             }
         }
-        Lookup::Unknown
+        Lookup::NotNamed
     }
 
-    // The name that a word is taken to: Unknown for one that is not MRS or MSR, and for one that is not in the table.
+    // The name that a word is taken to: NotNamed for one that is not MRS or MSR, and for one that is not in the table.
     pub fn named_by(word: u32) -> Lookup
         ensures { λ r. ⌜ r ≡ nameOf word ⌝ }
     {
         if is_mrs_or_msr(word) {
             Register::look_up(word)
         } else {
-            Lookup::Unknown
+            Lookup::NotNamed
         }
     }
 }

@@ -1,4 +1,5 @@
 -- Bits of a word, and the bits of the two control registers by the names of the Arm manual ('The machine we model').
+-- Other bits are ignored.
 use Prim.Native.Nat.{ℕ, _+_, _-_, _/_, _%_, _^_}
 use mathlib.Core.Bool.{Bool, cond}
 use lib.Dec.{eqb}

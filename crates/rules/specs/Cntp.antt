@@ -1,6 +1,6 @@
--- 'Who may touch what', CNTP family (source document 001); CTL and CVAL share the gates of TVAL.
+-- 'Who may touch what', CNTP family (source document 001); CTL and CVAL share the gates of TVAL. The count used is in Counts.
 use mathlib.Core.Bool.{Bool, not, cond, _&&_}
-use mathlib.Core.List.{List, [], _∷_}
+use mathlib.Core.List.{List, [], _∷_, _++_}
 use Rattle.rules.specs.declared.facts.Facts.{Facts}
 use Rattle.rules.specs.declared.state.TimerName.the-variants.{Cntp, Cnthp, Cnthps}
 use Rattle.rules.specs.declared.name.Part.{Part}
@@ -24,22 +24,25 @@ module _ (f : Facts) where
       ∷ (host && not hEl0pten) ⇒ ToEl2  -- (d)
       ∷ []
 
-  -- EL1: EL2 on and the EL1 bit (PCEN for E2H 0, PTEN for E2H 1) 0: EL2
+  -- EL1, the rule over the bits that it reads: EL2 on and the EL1 bit (PCEN for E2H 0, PTEN for E2H 1) 0: EL2
   abbrev pub el1Rule : Bool → Bool → List Rule
   el1Rule el1pcen el1pten = (on && not (cond e2h el1pten el1pcen)) ⇒ ToEl2 ∷ []
 
+  -- EL0: (a) to (d) with the timer bits, then (e), (f), (g)
   abbrev pub cntpEl0 : Part → Verdict
   cntpEl0 p =
-      first (aToD (cntkctl .el0pten) (cnthctl .el1pcen) (cnthctl .el1pten) (cnthctl .el0pten))
-      (first
-      ((host && secure && sel2) ⇒ timer Cnthps p  -- (e)
+      first
+      (aToD (cntkctl .el0pten) (cnthctl .el1pcen) (cnthctl .el1pten) (cnthctl .el0pten)
+      ++ (host && secure && sel2) ⇒ timer Cnthps p  -- (e)
       ∷ (host && not secure) ⇒ timer Cnthp p  -- (f)
       ∷ [])
-      (timer Cntp p))  -- (g)
+      (timer Cntp p)  -- (g)
 
+  -- EL1: that rule; else CNTP
   abbrev pub cntpEl1 : Part → Verdict
   cntpEl1 p = first (el1Rule (cnthctl .el1pcen) (cnthctl .el1pten)) (timer Cntp p)
 
+  -- EL2: E2H 1, secure, SEL2: CNTHPS; E2H 1, not secure: CNTHP; else CNTP
   abbrev pub cntpEl2 : Part → Verdict
   cntpEl2 p =
       first
@@ -48,6 +51,7 @@ module _ (f : Facts) where
       ∷ [])
       (timer Cntp p)
 
+  -- EL3: CNTP
   abbrev pub cntpEl3 : Part → Verdict
   cntpEl3 p = timer Cntp p
 

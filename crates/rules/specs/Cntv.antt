@@ -1,6 +1,6 @@
--- 'Who may touch what', CNTV family (source documents 000 and, for EL1, 002).
+-- 'Who may touch what', CNTV family (source documents 000 and, for EL1, 002). The count used is in Counts.
 use mathlib.Core.Bool.{Bool, not, _&&_}
-use mathlib.Core.List.{List, [], _∷_}
+use mathlib.Core.List.{List, [], _∷_, _++_}
 use Rattle.rules.specs.declared.facts.Facts.{Facts}
 use Rattle.rules.specs.declared.state.TimerName.the-variants.{Cntv, Cnthv, Cnthvs}
 use Rattle.rules.specs.declared.name.Part.{Part}
@@ -20,18 +20,21 @@ module _ (f : Facts) where
       ∷ (on && not host && ecv && el1tvt) ⇒ ToEl2  -- (c)
       ∷ []
 
+  -- EL0: (a) to (c) with the timer bits, then (d), (e), (f)
   abbrev pub cntvEl0 : Part → Verdict
   cntvEl0 p =
-      first (aToC (cntkctl .el0vten) (cnthctl .el0vten) (cnthctl .el1tvt))
-      (first
-      ((host && secure && sel2) ⇒ timer Cnthvs p  -- (d)
+      first
+      (aToC (cntkctl .el0vten) (cnthctl .el0vten) (cnthctl .el1tvt)
+      ++ (host && secure && sel2) ⇒ timer Cnthvs p  -- (d)
       ∷ (host && not secure) ⇒ timer Cnthv p  -- (e)
       ∷ [])
-      (timer Cntv p))  -- (f)
+      (timer Cntv p)  -- (f)
 
+  -- EL1: EL2 on, ECV, EL1TVT 1: EL2; else CNTV
   abbrev pub cntvEl1 : Part → Verdict
   cntvEl1 p = first ((on && ecv && cnthctl .el1tvt) ⇒ ToEl2 ∷ []) (timer Cntv p)
 
+  -- EL2: E2H 1, secure, SEL2: CNTHVS; E2H 1, not secure: CNTHV; else CNTV
   abbrev pub cntvEl2 : Part → Verdict
   cntvEl2 p =
       first
@@ -40,6 +43,7 @@ module _ (f : Facts) where
       ∷ [])
       (timer Cntv p)
 
+  -- EL3: CNTV
   abbrev pub cntvEl3 : Part → Verdict
   cntvEl3 p = timer Cntv p
 

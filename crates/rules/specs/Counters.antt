@@ -1,4 +1,4 @@
--- 'Who may touch what', CNTPCT, CNTVCT (documents 003, 004) and the SS forms.
+-- 'Who may touch what', CNTPCT, CNTVCT (documents 003, 004) and the SS forms. Their values are in Counts.
 use mathlib.Core.Bool.{Bool, not, _&&_}
 use mathlib.Core.List.{[], _∷_}
 use Rattle.rules.specs.declared.facts.Facts.{Facts}
@@ -20,6 +20,7 @@ module _ (f : Facts) where
   abbrev pub cntpctEl1 : Verdict
   cntpctEl1 = first (el1Rule f (cnthctl .el1pcten) (cnthctl .el1pcten)) (Reaches Cntpct)
 
+  -- EL2, EL3: reached
   unfoldable pub cntpct : Verdict
   cntpct = atLevel level cntpctEl0 cntpctEl1 (Reaches Cntpct) (Reaches Cntpct)
 
@@ -31,6 +32,7 @@ module _ (f : Facts) where
   abbrev pub cntvctEl1 : Verdict
   cntvctEl1 = first ((on && cnthctl .el1tvct) ⇒ ToEl2 ∷ []) (Reaches Cntvct)
 
+  -- EL2, EL3: reached
   unfoldable pub cntvct : Verdict
   cntvct = atLevel level cntvctEl0 cntvctEl1 (Reaches Cntvct) (Reaches Cntvct)
 

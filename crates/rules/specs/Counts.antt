@@ -1,4 +1,5 @@
--- The counts: the count used, by an access at a level; and the count of the condition, by 'Timer met' at no level.
+-- The counts, each from the physical count of the access: what an access at a level sees of it, the count used, and the
+-- count of the condition, which has no level.
 use Prim.Native.Nat.{ℕ}
 use mathlib.Core.Bool.{Bool, cond, _&&_, _||_}
 use lib.Dec.{eqb}
@@ -11,35 +12,37 @@ use Rattle.rules.specs.Arithmetic.{_less_}
 
 -- physical less CNTVOFF
 abbrev pub virtual : State → ℕ → ℕ
-virtual s count = count less s .cntvoff
+virtual s physical = physical less s .cntvoff
 
 -- physical, less CNTPOFF with offset on
 abbrev pub offsetPhysical : Bool → State → ℕ → ℕ
-offsetPhysical offset s count = cond offset (count less s .cntpoff) count
+offsetPhysical offsetOn s physical = cond offsetOn (physical less s .cntpoff) physical
 
--- CNTPCT's value, and the count used of timer CNTP: physical, less CNTPOFF at EL0 and EL1 with offset on
-abbrev pub cntpctValue : Facts → State → ℕ → ℕ
-cntpctValue f s count = offsetPhysical ((eqb (f .level) EL0 || eqb (f .level) EL1) && f .offset) s count
+-- CNTPCT's value, which is timer CNTP's count used too: physical, less CNTPOFF at EL0 and EL1 with offset on
+abbrev pub physicalSeen : Facts → State → ℕ → ℕ
+physicalSeen f s physical = offsetPhysical ((eqb (f .level) EL0 || eqb (f .level) EL1) && f .offset) s physical
 
 -- CNTVCT's value: physical less CNTVOFF, but physical alone for host at EL0 and for E2H 1 at EL2
-abbrev pub cntvctValue : Facts → State → ℕ → ℕ
-cntvctValue f s count = cond ((f .host && eqb (f .level) EL0) || (f .e2h && eqb (f .level) EL2)) count (virtual s count)
+abbrev pub virtualSeen : Facts → State → ℕ → ℕ
+virtualSeen f s physical =
+    cond ((f .host && eqb (f .level) EL0) || (f .e2h && eqb (f .level) EL2)) physical (virtual s physical)
 
--- the count used: CNTP as above; CNTV, physical less CNTVOFF, also where EL2 exists but is not on; the others, physical
+-- the count used: CNTP, physical, less CNTPOFF at EL0 and EL1 with offset on; CNTV, physical less CNTVOFF, also where EL2
+-- exists but is not on; the others, physical
 unfoldable pub usedCount : Facts → State → ℕ → TimerName → ℕ
-usedCount f s count Cntp = cntpctValue f s count
-usedCount f s count Cntv = virtual s count
-usedCount f s count Cnthp = count
-usedCount f s count Cnthv = count
-usedCount f s count Cnthps = count
-usedCount f s count Cnthvs = count
+usedCount f s physical Cntp = physicalSeen f s physical
+usedCount f s physical Cntv = virtual s physical
+usedCount f s physical Cnthp = physical
+usedCount f s physical Cnthv = physical
+usedCount f s physical Cnthps = physical
+usedCount f s physical Cnthvs = physical
 
 -- the count of the condition: CNTV, physical less CNTVOFF; CNTP, physical, less CNTPOFF with offset on (our house rule);
 -- others, physical
 unfoldable pub conditionCount : Bool → State → ℕ → TimerName → ℕ
-conditionCount offset s count Cntp = offsetPhysical offset s count
-conditionCount offset s count Cntv = virtual s count
-conditionCount offset s count Cnthp = count
-conditionCount offset s count Cnthv = count
-conditionCount offset s count Cnthps = count
-conditionCount offset s count Cnthvs = count
+conditionCount offsetOn s physical Cntp = offsetPhysical offsetOn s physical
+conditionCount offsetOn s physical Cntv = virtual s physical
+conditionCount offsetOn s physical Cnthp = physical
+conditionCount offsetOn s physical Cnthv = physical
+conditionCount offsetOn s physical Cnthps = physical
+conditionCount offsetOn s physical Cnthvs = physical

@@ -1,4 +1,4 @@
--- 'Who may touch what', CNTVOFF (003), CNTHP (001) and CNTHVS (000).
+-- 'Who may touch what', CNTVOFF (003), CNTHP (001) and CNTHVS (000). The count used is in Counts.
 use mathlib.Core.Bool.{not, _&&_}
 use mathlib.Core.List.{[], _∷_}
 use Rattle.rules.specs.declared.facts.Facts.{Facts}

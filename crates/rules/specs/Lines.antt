@@ -9,6 +9,7 @@ use Rattle.rules.specs.Words.{offsetOn}
 use Rattle.rules.specs.Timers.{get}
 use Rattle.rules.specs.Counts.{conditionCount}
 use Rattle.rules.specs.Values.{raised}
+use Rattle.rules.specs.Answers.{done, impossibleContext}
 use Rattle.rules.specs.Context.{impossible}
 
 -- the number, and each line by its timer
@@ -26,7 +27,9 @@ linesBy number line =
 
 -- a timer's line at a physical count
 unfoldable pub lineOf : State → ℕ → TimerName → Bool
-lineOf s count t = raised (get (s .timers) t) (conditionCount (offsetOn s) s count t)
+lineOf s physical t = raised (get (s .timers) t) (conditionCount (offsetOn s) s physical t)
 
+-- 5 with no line raised; else 0 with each line
 unfoldable pub linesOf : State → ℕ → Lines
-linesOf s count = cond (impossible s) (linesBy 5 (λ _. false)) (linesBy 0 (lineOf s count))
+linesOf s physical =
+    cond (impossible s) (linesBy impossibleContext (λ _. false)) (linesBy done (lineOf s physical))

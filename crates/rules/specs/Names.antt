@@ -7,7 +7,7 @@ use Rattle.rules.specs.declared.name.Name.{Name}
 use Rattle.rules.specs.declared.name.Name.the-variants.{Cntpct, Cntvct, Cntpctss, Cntvctss, Cntp, Cntv, Cntvoff, Cnthp, Cnthvs}
 use Rattle.rules.specs.declared.name.Part.the-variants.{Tval, Ctl, Cval}
 use Rattle.rules.specs.declared.name.Lookup.{Lookup}
-use Rattle.rules.specs.declared.name.Lookup.the-variants.{Known, Unknown}
+use Rattle.rules.specs.declared.name.Lookup.the-variants.{Named, NotNamed}
 use Rattle.rules.specs.Bits.{bits, bit}
 
 -- MRS and MSR (register): bits 31..22 are 1101010100, and bit 20 is 1
@@ -38,8 +38,8 @@ abbrev pub rtOf : ℕ → ℕ
 rtOf word = bits 4 0 word
 
 -- MSR with Rt 31 writes 0, whatever operand is lent
-abbrev pub operandOf : ℕ → ℕ → ℕ
-operandOf word operand = cond (eqb (rtOf word) 31) 0 operand
+abbrev pub writtenOperand : ℕ → ℕ → ℕ
+writtenOperand word operand = cond (eqb (rtOf word) 31) 0 operand
 
 -- a register: one name with its five encoding numbers
 pub record Row : Type 0 where
@@ -53,7 +53,7 @@ pub record Row : Type 0 where
 abbrev row : Name → ℕ → ℕ → ℕ → ℕ → ℕ → Row
 row name op0 op1 crn crm op2 = record { name = name; op0 = op0; op1 = op1; crn = crn; crm = crm; op2 = op2 }
 
---           register    op0 op1 CRn CRm op2
+-- a line each: the name, then op0, op1, CRn, CRm, op2
 unfoldable pub nameTable : List Row
 nameTable =
     row Cntpct 3 3 14 0 1
@@ -82,9 +82,9 @@ isNamedBy r word =
 
 -- the first register of a table whose numbers a word has
 abbrev pub lookUp : List Row → ℕ → Lookup
-lookUp [] word = Unknown
-lookUp (r ∷ rs) word = cond (isNamedBy r word) (Known (r .name)) (lookUp rs word)
+lookUp [] word = NotNamed
+lookUp (r ∷ rs) word = cond (isNamedBy r word) (Named (r .name)) (lookUp rs word)
 
 -- the name that a word is taken to: none for a word that is not MRS or MSR, or not in the table
 unfoldable pub nameOf : ℕ → Lookup
-nameOf word = cond (isMrsOrMsr word) (lookUp nameTable word) Unknown
+nameOf word = cond (isMrsOrMsr word) (lookUp nameTable word) NotNamed

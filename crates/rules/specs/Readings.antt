@@ -10,6 +10,7 @@ use Rattle.rules.specs.declared.state.Controls.{Controls}
 use Rattle.rules.specs.declared.state.State.{State}
 use Rattle.rules.specs.declared.state.Timer.{Timer}
 use Rattle.rules.specs.Words.{EL0, EL1, EL2}
+use Rattle.rules.specs.Timers.{timerOf}
 use Rattle.rules.specs.Answers.{answer, asBefore}
 use Rattle.rules.specs.Access.{accessOf}
 
@@ -17,9 +18,6 @@ use Rattle.rules.specs.Access.{accessOf}
 abbrev controlsOf : Bool → Bool → ℕ → Controls
 controlsOf e2h tge cntkctl =
     record { ns = true; eel2 = false; ecven = false; e2h = e2h; tge = tge; cntkctl = cntkctl; cnthctl = 0 }
-
-abbrev timerOf : ℕ → Bool → Bool → Timer
-timerOf cval enable imask = record { cval = cval; enable = enable; imask = imask }
 
 abbrev disabled : Timer
 disabled = timerOf 0 false false
@@ -42,6 +40,9 @@ startControls = controlsOf false false 0x303
 abbrev pub start : State
 start = bench startControls disabled disabled
 
+abbrev withControls : Controls → State
+withControls controls = bench controls disabled disabled
+
 abbrev withCntv : Timer → State
 withCntv cntv = bench startControls cntv disabled
 
@@ -56,14 +57,14 @@ pub record Reading : Type 0 where
   pub count : ℕ
   pub told : Outcome
 
--- an access with no operand that leaves the state as it was
-abbrev row : State → ℕ → ℕ → ℕ → Answer → Reading
-row s word level count a =
+-- a read, which leaves the state as it was
+abbrev mrs : State → ℕ → ℕ → ℕ → Answer → Reading
+mrs s word level count a =
     record { state = s; word = word; level = level; operand = 0; count = count; told = asBefore s a }
 
 -- a write from the start, at EL1 and count 1000, with what CNTV then holds
-abbrev written : ℕ → ℕ → Answer → Timer → Reading
-written word operand a cntv =
+abbrev msr : ℕ → ℕ → Answer → Timer → Reading
+msr word operand a cntv =
     record {
       state = start;
       word = word;
@@ -73,27 +74,28 @@ written word operand a cntv =
       told = record { answer = a; next = withCntv cntv };
     }
 
+-- a read: state, word, level, count; number, Rt, value, mask. A write: word, operand; number, Rt, value, mask; CNTV after
 abbrev pub readings : List Reading
 readings =
-    row start 0xD53BE040 EL1 1000 (answer 0 0 600 0)  -- 1
-    ∷ row start 0xD53BE020 EL1 1000 (answer 3 0 0 0)  -- 2
-    ∷ row (bench (controlsOf false false 0) disabled disabled) 0xD53BE040 EL0 1000 (answer 2 0 0 0)  -- 3
-    ∷ row (bench (controlsOf false true 0) disabled disabled) 0xD53BE040 EL0 1000 (answer 3 0 0 0)
-    ∷ written 0xD51BE301 0xFFFFFFFF (answer 0 1 0 0) (timerOf 599 false false)  -- 4
-    ∷ written 0xD51BE301 0x100000005 (answer 0 1 0 0) (timerOf 605 false false)  -- 5
-    ∷ written 0xD51BE31F 77 (answer 0 31 0 0) (timerOf 600 false false)  -- 6
-    ∷ row (withCntv (timerOf 599 true true)) 0xD53BE320 EL1 1000 (answer 0 0 7 0)  -- 7
-    ∷ row (withCntv (timerOf 600 true true)) 0xD53BE320 EL1 1000 (answer 0 0 7 0)
-    ∷ row (withCntv (timerOf 601 true true)) 0xD53BE320 EL1 1000 (answer 0 0 3 0)
-    ∷ row start 0xD53BE320 EL1 1000 (answer 0 0 0 4)  -- 8
-    ∷ row start 0xD53CE400 EL2 1000 (answer 1 0 0 0)  -- 9
-    ∷ row start 0xD53CE060 EL2 1000 (answer 0 0 400 0)  -- 10
-    ∷ row start 0xD53CE060 EL1 1000 (answer 1 0 0 0)
-    ∷ row (withCnthp (timerOf 900 true false)) 0xD53CE200 EL2 1000 (answer 0 0 0xFFFFFFFFFFFFFF9C 0)  -- 11
-    ∷ row (withCnthp (timerOf 900 false false)) 0xD53CE200 EL2 1000 (answer 0 0 0 0xFFFFFFFFFFFFFFFF)
-    ∷ row start 0xD53BE040 EL1 5 (answer 0 0 0xFFFFFFFFFFFFFE75 0)  -- 12
-    ∷ row (bench (controlsOf true false 0x303) disabled disabled) 0xD53BE040 EL2 1000 (answer 0 0 1000 0)
-    ∷ row start 0xD53BE000 EL1 1000 (answer 4 0 0 0)
+    mrs start 0xD53BE040 EL1 1000 (answer 0 0 600 0)  -- 1
+    ∷ mrs start 0xD53BE020 EL1 1000 (answer 3 0 0 0)  -- 2
+    ∷ mrs (withControls (controlsOf false false 0)) 0xD53BE040 EL0 1000 (answer 2 0 0 0)  -- 3, CNTKCTL 0
+    ∷ mrs (withControls (controlsOf false true 0)) 0xD53BE040 EL0 1000 (answer 3 0 0 0)  -- 3, TGE 1 as well
+    ∷ msr 0xD51BE301 0xFFFFFFFF (answer 0 1 0 0) (timerOf 599 false false)  -- 4
+    ∷ msr 0xD51BE301 0x100000005 (answer 0 1 0 0) (timerOf 605 false false)  -- 5
+    ∷ msr 0xD51BE31F 77 (answer 0 31 0 0) (timerOf 600 false false)  -- 6
+    ∷ mrs (withCntv (timerOf 599 true true)) 0xD53BE320 EL1 1000 (answer 0 0 7 0)  -- 7, CVAL 599
+    ∷ mrs (withCntv (timerOf 600 true true)) 0xD53BE320 EL1 1000 (answer 0 0 7 0)  -- 7, CVAL 600
+    ∷ mrs (withCntv (timerOf 601 true true)) 0xD53BE320 EL1 1000 (answer 0 0 3 0)  -- 7, CVAL 601
+    ∷ mrs start 0xD53BE320 EL1 1000 (answer 0 0 0 4)  -- 8
+    ∷ mrs start 0xD53CE400 EL2 1000 (answer 1 0 0 0)  -- 9
+    ∷ mrs start 0xD53CE060 EL2 1000 (answer 0 0 400 0)  -- 10, EL2
+    ∷ mrs start 0xD53CE060 EL1 1000 (answer 1 0 0 0)  -- 10, EL1
+    ∷ mrs (withCnthp (timerOf 900 true false)) 0xD53CE200 EL2 1000 (answer 0 0 0xFFFFFFFFFFFFFF9C 0)  -- 11, enabled
+    ∷ mrs (withCnthp (timerOf 900 false false)) 0xD53CE200 EL2 1000 (answer 0 0 0 0xFFFFFFFFFFFFFFFF)  -- 11, disabled
+    ∷ mrs start 0xD53BE040 EL1 5 (answer 0 0 0xFFFFFFFFFFFFFE75 0)  -- 12, count 5
+    ∷ mrs (withControls (controlsOf true false 0x303)) 0xD53BE040 EL2 1000 (answer 0 0 1000 0)  -- 12, EL2 with E2H 1
+    ∷ mrs start 0xD53BE000 EL1 1000 (answer 4 0 0 0)  -- 12, no such register
     ∷ []
 
 -- what the rules answer to a reading's access

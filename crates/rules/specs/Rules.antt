@@ -23,10 +23,10 @@ abbrev pub first : List Rule → Verdict → Verdict
 first [] otherwise = otherwise
 first (r ∷ rs) otherwise = cond (r .fits) (r .gives) (first rs otherwise)
 
--- a family's verdicts at EL0, EL1, EL2 and EL3
+-- a family's verdicts at EL0, EL1, EL2 and EL3; a level above 3 is refused with 5 before any rule is asked
 abbrev pub atLevel : ℕ → Verdict → Verdict → Verdict → Verdict → Verdict
 atLevel level el0 el1 el2 el3 = cond (eqb level EL0) el0 (cond (eqb level EL1) el1 (cond (eqb level EL2) el2 el3))
 
--- the register of a timer is reached
+-- a register of a timer is reached: its part is passed on, and no rule looks at it
 abbrev pub timer : TimerName → Part → Verdict
 timer t p = Reaches (Timer t p)

@@ -8,7 +8,7 @@ use Rattle.rules.specs.declared.state.Timer.{Timer}
 use Rattle.rules.specs.declared.state.TimerName.{TimerName}
 use Rattle.rules.specs.declared.state.TimerName.the-variants.{Cntp, Cntv, Cnthp, Cnthv, Cnthps, Cnthvs}
 
--- a timer's place in the paper's order
+-- a timer's place in the paper's order, by which two names are told apart
 abbrev pub placeOf : TimerName → ℕ
 placeOf Cntp = 0
 placeOf Cntv = 1
@@ -19,6 +19,9 @@ placeOf Cnthvs = 5
 
 abbrev pub same : TimerName → TimerName → Bool
 same t u = eqb (placeOf t) (placeOf u)
+
+abbrev pub timerOf : ℕ → Bool → Bool → Timer
+timerOf cval enable imask = record { cval = cval; enable = enable; imask = imask }
 
 abbrev pub get : Timers → TimerName → Timer
 get ts Cntp = ts .cntp

@@ -14,17 +14,14 @@ use Rattle.rules.specs.declared.verdict.Target.{Target}
 use Rattle.rules.specs.declared.verdict.Target.the-variants.{Cntpct, Cntvct, Cntvoff}
 use Rattle.rules.specs.Bits.{bit}
 use Rattle.rules.specs.Arithmetic.{_plus_, _less_, signed32}
-use Rattle.rules.specs.Timers.{get, put, withTimers, withCntvoff}
-use Rattle.rules.specs.Counts.{cntpctValue, cntvctValue, usedCount, conditionCount}
+use Rattle.rules.specs.Timers.{timerOf, get, put, withTimers, withCntvoff}
+use Rattle.rules.specs.Counts.{physicalSeen, virtualSeen, usedCount, conditionCount}
 
--- all bits of a register that is read whole are known
+-- a value whose bits are all known
 abbrev pub known : ℕ → Value
 known x = record { value = x; mask = 0 }
 
-abbrev timerOf : ℕ → Bool → Bool → Timer
-timerOf cval enable imask = record { cval = cval; enable = enable; imask = imask }
-
--- TVAL read: ENABLE 0, all 64 bits unknown; else CVAL less the count
+-- TVAL read: ENABLE 0, all 64 bits unknown; else CVAL less the count, as document 001's steps have it
 abbrev pub readTval : Timer → ℕ → Value
 readTval t used = cond (t .enable) (known (t .cval less used)) (record { value = 0; mask = 2 ^ 64 - 1 })
 
@@ -32,13 +29,13 @@ readTval t used = cond (t .enable) (known (t .cval less used)) (record { value =
 abbrev pub writeTval : Timer → ℕ → ℕ → Timer
 writeTval t used x = timerOf (used plus signed32 x) (t .enable) (t .imask)
 
--- timer met: ENABLE 1 and the count not below CVAL, both unsigned
+-- timer met: ENABLE 1 and the count not below CVAL, both unsigned (002: zero-extended)
 abbrev pub met : Timer → ℕ → Bool
-met t count = t .enable && leb (t .cval) count
+met t condition = t .enable && leb (t .cval) condition
 
 -- a line is raised if met and IMASK is 0
 abbrev pub raised : Timer → ℕ → Bool
-raised t count = met t count && not (t .imask)
+raised t condition = met t condition && not (t .imask)
 
 abbrev flag : ℕ → Bool → ℕ
 flag k b = cond b (2 ^ k) 0
@@ -55,33 +52,35 @@ readCtl t condition =
 abbrev pub writeCtl : Timer → ℕ → Timer
 writeCtl t x = timerOf (t .cval) (bit 0 x) (bit 1 x)
 
--- CVAL is read and written whole
+-- CVAL is written whole
 abbrev pub writeCval : Timer → ℕ → Timer
 writeCval t x = timerOf x (t .enable) (t .imask)
 
--- one timer read and written, over the count used and the count of the condition
+-- one timer read, CVAL whole, over the count used and the count of the condition
 unfoldable pub readTimer : Timer → Part → ℕ → ℕ → Value
 readTimer t Tval used condition = readTval t used
 readTimer t Ctl used condition = readCtl t condition
 readTimer t Cval used condition = known (t .cval)
 
+-- and written
 unfoldable pub writeTimer : Timer → Part → ℕ → ℕ → Timer
 writeTimer t Tval used x = writeTval t used x
 writeTimer t Ctl used x = writeCtl t x
 writeTimer t Cval used x = writeCval t x
 
--- what a register that was reached reads as
+-- what a register that was reached reads as, by the facts of the state at the access's level; CNTVOFF whole
 unfoldable pub readOf : Facts → State → ℕ → Target → Value
-readOf f s count Cntpct = known (cntpctValue f s count)
-readOf f s count Cntvct = known (cntvctValue f s count)
-readOf f s count Cntvoff = known (s .cntvoff)
-readOf f s count (Target.Timer t p) =
-    readTimer (get (s .timers) t) p (usedCount f s count t) (conditionCount (f .offset) s count t)
+readOf f s physical Cntpct = known (physicalSeen f s physical)
+readOf f s physical Cntvct = known (virtualSeen f s physical)
+readOf f s physical Cntvoff = known (s .cntvoff)
+readOf f s physical (Target.Timer t p) =
+    readTimer (get (s .timers) t) p (usedCount f s physical t) (conditionCount (f .offset) s physical t)
 
--- the state after a write of a register that was reached; no write reaches a counter, since MSR of one is Undefined
+-- the state after a write of a register that was reached, CNTVOFF whole; no write reaches a counter, since MSR of one is
+-- Undefined
 unfoldable pub writeOf : Facts → State → ℕ → Target → ℕ → State
-writeOf f s count Cntpct x = s
-writeOf f s count Cntvct x = s
-writeOf f s count Cntvoff x = withCntvoff s x
-writeOf f s count (Target.Timer t p) x =
-    withTimers s (put (s .timers) t (writeTimer (get (s .timers) t) p (usedCount f s count t) x))
+writeOf f s physical Cntpct x = s
+writeOf f s physical Cntvct x = s
+writeOf f s physical Cntvoff x = withCntvoff s x
+writeOf f s physical (Target.Timer t p) x =
+    withTimers s (put (s .timers) t (writeTimer (get (s .timers) t) p (usedCount f s physical t) x))

@@ -8,7 +8,8 @@ pub struct Cntkctl {
     pub el0pten: bool,
 }
 
-// The bits of CNTHCTL_EL2, in the layout that E2H picks.
+// The bits of CNTHCTL_EL2, each from its own place; `el1pcten` has two, of which E2H picks one. A rule asks a name that only
+// one layout has with that E2H alone.
 pub struct Cnthctl {
     pub el0pcten: bool,
     pub el0vcten: bool,
@@ -33,7 +34,7 @@ pub struct Facts {
     pub on: bool,
     pub host: bool,
     pub secure: bool,
-    pub offset: bool,
+    pub offset: bool, // offset on
     pub cntkctl: Cntkctl,
     pub cnthctl: Cnthctl,
 }

@@ -19,8 +19,8 @@ pub enum Name {
     Cnthvs(Part),
 }
 
-// What the name table says of an instruction word.
+// What an instruction word is taken to: a name, or none if it is no MRS or MSR or not in the name table.
 pub enum Lookup {
-    Known(Name),
-    Unknown,
+    Named(Name),
+    NotNamed,
 }

@@ -1,4 +1,4 @@
-// What a gate says of an access: where it traps, or the one register that it reaches.
+// What a gate says of an access: Undefined, where it traps, or the one register that it reaches.
 use crate::name::Part;
 use crate::state::TimerName;
 
