@@ -1,0 +1,82 @@
+// The gate of the CNTV family (document 01, 'Who may touch what').
+ghost use mathlib.Core.Path.{_≡_};
+ghost use Rattle.rules.specs.Rules.{first};
+ghost use Rattle.rules.specs.Cntv.{aToC, cntvEl0, cntvEl1};
+ghost use Rattle.rules.specs.Cntv as gate;
+use crate::cntp::denied;
+use crate::redirect::redirected;
+use rules::Facts;
+use rules::Part;
+use rules::Target;
+use rules::TimerName;
+use rules::Verdict;
+
+// EL0, rules (a) to (c), over the bits that they read; `otherwise` is for an access that none of them stops.
+pub fn virtual_at_el0(
+    f: Facts,
+    k_el0vten: bool,
+    h_el0vten: bool,
+    el1tvt: bool,
+    otherwise: Verdict,
+) -> Verdict
+    ensures { λ r. ⌜ r ≡ first (aToC f «k_el0vten» «h_el0vten» el1tvt) otherwise ⌝ }
+{
+    let a = !f.host & !k_el0vten;
+    let b = f.host & !h_el0vten;
+    let c = f.on & !f.host & f.ecv & el1tvt;
+    if a {
+        return denied(f);
+    }
+    if b {
+        return Verdict::ToEl2;
+    }
+    if c {
+        return Verdict::ToEl2;
+    }
+    otherwise
+}
+
+fn cntv_at_el0(f: Facts, p: Part) -> Verdict
+    ensures { λ r. ⌜ r ≡ cntvEl0 f p ⌝ }
+{
+    let k = f.cntkctl;
+    let h = f.cnthctl;
+    let otherwise = redirected(
+        f,
+        f.host,
+        TimerName::Cnthvs,
+        TimerName::Cnthv,
+        TimerName::Cntv,
+        p,
+    );
+    virtual_at_el0(f, k.el0vten, h.el0vten, h.el1tvt, otherwise)
+}
+
+fn cntv_at_el1(f: Facts, p: Part) -> Verdict
+    ensures { λ r. ⌜ r ≡ cntvEl1 f p ⌝ }
+{
+    let h = f.cnthctl;
+    if f.on & f.ecv & h.el1tvt {
+        return Verdict::ToEl2;
+    }
+    Verdict::Reaches(Target::Timer(TimerName::Cntv, p))
+}
+
+pub fn cntv(f: Facts, p: Part) -> Verdict
+    ensures { λ r. ⌜ r ≡ gate.cntv f p ⌝ }
+{
+    let level = f.level;
+    match level {
+        0 => cntv_at_el0(f, p),
+        1 => cntv_at_el1(f, p),
+        2 => redirected(
+            f,
+            f.e2h,
+            TimerName::Cnthvs,
+            TimerName::Cnthv,
+            TimerName::Cntv,
+            p,
+        ),
+        _ => Verdict::Reaches(Target::Timer(TimerName::Cntv, p)),
+    }
+}

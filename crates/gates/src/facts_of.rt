@@ -1,0 +1,82 @@
+// The words and bits of document 01, read off a state at a level.
+ghost use mathlib.Core.Path.{_≡_};
+ghost use Rattle.rules.specs.Bits.{bit, cntkctlOf, cnthctlOf};
+ghost use Rattle.rules.specs.Words.{factsOf};
+ghost use mathlib.Core.Bool.{cond};
+use rules::Cnthctl;
+use rules::Cntkctl;
+use rules::Facts;
+use rules::Features;
+use rules::State;
+
+fn cntkctl(x: u32) -> Cntkctl
+    ensures { λ r. ⌜ r ≡ cntkctlOf x ⌝ }
+{
+    Cntkctl {
+        el0pcten: (x >> 0) % 2 == 1,
+        el0vcten: (x >> 1) % 2 == 1,
+        el0vten: (x >> 8) % 2 == 1,
+        el0pten: (x >> 9) % 2 == 1,
+    }
+}
+
+// EL1PCTEN, whose place E2H picks.
+fn el1pcten(e2h: bool, x: u32) -> bool
+    ensures { λ r. ⌜ r ≡ cond e2h (bit 10 x) (bit 0 x) ⌝ }
+{
+    if e2h {
+        (x >> 10) % 2 == 1
+    } else {
+        (x >> 0) % 2 == 1
+    }
+}
+
+fn cnthctl(e2h: bool, x: u32) -> Cnthctl
+    ensures { λ r. ⌜ r ≡ cnthctlOf e2h x ⌝ }
+{
+    let el1pcten = el1pcten(e2h, x);
+    Cnthctl {
+        el0pcten: (x >> 0) % 2 == 1,
+        el0vcten: (x >> 1) % 2 == 1,
+        el0vten: (x >> 8) % 2 == 1,
+        el0pten: (x >> 9) % 2 == 1,
+        el1pcten,
+        el1pcen: (x >> 1) % 2 == 1,
+        el1pten: (x >> 11) % 2 == 1,
+        ecv: (x >> 12) % 2 == 1,
+        el1tvt: (x >> 13) % 2 == 1,
+        el1tvct: (x >> 14) % 2 == 1,
+    }
+}
+
+pub fn facts(s: State, level: u8) -> Facts
+    ensures { λ r. ⌜ r ≡ factsOf s level ⌝ }
+{
+    let Features { vhe, sel2, ecv } = s.features;
+    let controls = s.controls;
+    let eel2 = controls.eel2;
+    let e2h = controls.e2h;
+    let tge = controls.tge;
+    let on = controls.ns | (sel2 & eel2);
+    let host = on & e2h & tge;
+    let secure = !controls.ns | (level == 3);
+    let may_offset = ecv & on & controls.ecven;
+    let cntkctl = cntkctl(controls.cntkctl);
+    let cnthctl = cnthctl(e2h, controls.cnthctl);
+    let offset = may_offset & cnthctl.ecv & !host;
+    Facts {
+        level,
+        vhe,
+        sel2,
+        ecv,
+        eel2,
+        e2h,
+        tge,
+        on,
+        host,
+        secure,
+        offset,
+        cntkctl,
+        cnthctl,
+    }
+}
