@@ -1,0 +1,26 @@
+-- `write_part` meets its contract: the timer and the count are those that `writeOf` names, and the put is the next state's.
+-- Assumes nothing.
+use borrow.Author.Needs.{needs}
+use Rattle.rules.specs.Values.{writeOf}
+use Rattle.timers.proofs.reached.write_part.Statement.{statement}
+use Rattle.timers.proofs.reached.write_part.Tie as tie
+
+get-requires : tie.Need-get-requires
+get-requires c κs = search needs
+
+used-count-requires : tie.Need-used-count-requires
+used-count-requires c κs = search needs
+
+write-timer-requires : tie.Need-write-timer-requires
+write-timer-requires c κs = search needs
+
+put-requires : tie.Need-put-requires
+put-requires c κs = search needs
+
+returns : tie.Need-returns
+unfolding writeOf
+returns c = rw (c .put .ensures, c .before .write-timer .ensures, c .before .before .used-count .ensures, c .before .before .before .get .ensures)
+
+pub write-part-spec : {M : Type 1} → statement M
+write-part-spec =
+    tie.close (tie.spec get-requires used-count-requires write-timer-requires put-requires returns)
