@@ -1,7 +1,7 @@
 // The words and bits of document 01, read off a state at a level.
 ghost use mathlib.Core.Path.{_≡_};
 ghost use Rattle.rules.specs.Bits.{bit, cntkctlOf, cnthctlOf};
-ghost use Rattle.rules.specs.Words.{factsOf};
+ghost use Rattle.rules.specs.Words.{on, offsetOn, factsOf};
 ghost use mathlib.Core.Bool.{cond};
 use rules::Cnthctl;
 use rules::Cntkctl;
@@ -49,6 +49,14 @@ fn cnthctl(e2h: bool, x: u32) -> Cnthctl
     }
 }
 
+pub fn el2_on(s: State) -> bool
+    ensures { λ r. ⌜ r ≡ on s ⌝ }
+{
+    let features = s.features;
+    let controls = s.controls;
+    controls.ns | (features.sel2 & controls.eel2)
+}
+
 pub fn facts(s: State, level: u8) -> Facts
     ensures { λ r. ⌜ r ≡ factsOf s level ⌝ }
 {
@@ -57,13 +65,13 @@ pub fn facts(s: State, level: u8) -> Facts
     let eel2 = controls.eel2;
     let e2h = controls.e2h;
     let tge = controls.tge;
-    let on = controls.ns | (sel2 & eel2);
-    let host = on & e2h & tge;
+    let ecven = controls.ecven;
     let secure = !controls.ns | (level == 3);
-    let may_offset = ecv & on & controls.ecven;
+    let on = el2_on(s);
     let cntkctl = cntkctl(controls.cntkctl);
     let cnthctl = cnthctl(e2h, controls.cnthctl);
-    let offset = may_offset & cnthctl.ecv & !host;
+    let host = on & e2h & tge;
+    let offset = ecv & on & ecven & cnthctl.ecv & !host;
     Facts {
         level,
         vhe,
@@ -79,4 +87,12 @@ pub fn facts(s: State, level: u8) -> Facts
         cntkctl,
         cnthctl,
     }
+}
+
+// Offset on does not look at the level.
+pub fn offset_on(s: State) -> bool
+    ensures { λ r. ⌜ r ≡ offsetOn s ⌝ }
+{
+    let f = facts(s, 0);
+    f.offset
 }
