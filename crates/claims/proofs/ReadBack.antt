@@ -1,0 +1,152 @@
+-- What a TVAL write took is read back. The count that the write added is the count that the read takes off, both wrapped at
+-- 64 bits; and taking 32 bits as signed does not touch the low 32.
+-- Assumes nothing.
+use Prim.Native.Nat.{ℕ, _+_, _-_, _%_, _/_, _^_, _<_}
+use mathlib.Core.Bool.{Bool, true, false, cond, _&&_, _||_}
+use mathlib.Core.Path.{_≡_, refl, sym, ap, ap₂, subst, _∙_}
+use native.Mathlib.Omega.{arith}
+use lib.Dec.{eqb}
+use Rattle.rules.specs.declared.answer.Outcome.{Outcome}
+use Rattle.rules.specs.declared.name.Lookup.{Lookup}
+use Rattle.rules.specs.declared.name.Name.{Name}
+use Rattle.rules.specs.declared.name.Part.the-variants.{Tval}
+use Rattle.rules.specs.declared.state.Timer.{Timer}
+use Rattle.rules.specs.declared.state.Timers.{Timers}
+use Rattle.rules.specs.declared.verdict.Target.{Target}
+use Rattle.rules.specs.declared.verdict.Verdict.{Verdict}
+use Rattle.rules.specs.declared.verdict.Verdict.the-variants.{Undefined, ToEl1, ToEl2, Reaches}
+use Rattle.rules.specs.Verdicts.{verdictOf}
+use Rattle.rules.specs.Words.{EL0, EL1, factsOf}
+use Rattle.rules.specs.Names.{nameOf, isMrs, writtenOperand}
+use Rattle.rules.specs.Context.{impossible, impossibleAt}
+use Rattle.rules.specs.Timers.{get, put, withTimers}
+use Rattle.rules.specs.Values.{readTval, writeTval, readTimer, writeTimer, readOf, writeOf}
+use Rattle.rules.specs.Access.{permitted, accessOf}
+use Rattle.rules.proofs.Timers.{get-put-same}
+use Rattle.rules.proofs.Verdicts.{cntp-holds, cntv-holds, cnthp-holds, cnthvs-holds}
+use Rattle.claims.specs.Desk.{Permitted}
+use Rattle.claims.proofs.Ways.{ends}
+use Rattle.rules.specs.Bits.{bits, bit}
+use Rattle.rules.specs.Arithmetic.{_plus_, _less_, signed32}
+use Rattle.rules.specs.declared.facts.Facts.{Facts}
+use Rattle.rules.specs.declared.state.State.{State}
+use Rattle.rules.specs.declared.state.TimerName.{TimerName}
+use Rattle.rules.specs.declared.state.TimerName.the-variants.{Cntp, Cntv, Cnthp, Cnthv, Cnthps, Cnthvs}
+use Rattle.rules.specs.Counts.{usedCount, physicalSeen}
+use Rattle.claims.specs.ReadBack.{low32, TimerReadsBack, TvalReadsBack, HasTval, ofCntp, ofCntv, ofCnthp, ofCnthvs, ReadFollowsWrite}
+
+takes-off : (used x : ℕ) → used < 2 ^ 64 → x < 2 ^ 64 → (used plus x) less used ≡ x
+takes-off used x h k = omega arith
+
+-- bit 31 set or not, the low 32 bits are the operand's, and the whole fits 64
+signed32-low : (b : Bool) (x : ℕ) → (low32 (cond b (low32 x less 2 ^ 32) (low32 x)) ≡ low32 x) × (cond b (low32 x less 2 ^ 32) (low32 x) < 2 ^ 64)
+signed32-low true x = (omega arith, omega arith)
+signed32-low false x = (omega arith, omega arith)
+
+pub timer-reads-back : TimerReadsBack
+timer-reads-back t used x fits enabled =
+    rw enabled (ap low32 (takes-off used (signed32 x) fits (signed32-low (bit 31 x) x .1)) ∙ signed32-low (bit 31 x) x .0)
+
+-- ---- the count used
+
+less-fits : (a b : ℕ) → a less b < 2 ^ 64
+less-fits a b = omega arith
+
+either-fits : (b : Bool) (x y : ℕ) → x < 2 ^ 64 → y < 2 ^ 64 → cond b x y < 2 ^ 64
+either-fits true x y h k = h
+either-fits false x y h k = k
+
+used-fits : (f : Facts) (s : State) (count : ℕ) (t : TimerName) → count < 2 ^ 64 → usedCount f s count t < 2 ^ 64
+unfolding usedCount
+used-fits f s count Cntp h =
+    either-fits ((eqb (f .level) EL0 || eqb (f .level) EL1) && f .offset) (count less s .cntpoff) count (less-fits count (s .cntpoff)) h
+used-fits f s count Cntv h = less-fits count (s .cntvoff)
+used-fits f s count Cnthp h = h
+used-fits f s count Cnthv h = h
+used-fits f s count Cnthps h = h
+used-fits f s count Cnthvs h = h
+
+-- it does not look at the timers
+used-of-other-timers : (f : Facts) (s : State) (ts : Timers) (count : ℕ) (t : TimerName) → usedCount f (withTimers s ts) count t ≡ usedCount f s count t
+unfolding usedCount
+used-of-other-timers f s ts count Cntp = refl
+used-of-other-timers f s ts count Cntv = refl
+used-of-other-timers f s ts count Cnthp = refl
+used-of-other-timers f s ts count Cnthv = refl
+used-of-other-timers f s ts count Cnthps = refl
+used-of-other-timers f s ts count Cnthvs = refl
+
+-- ---- the two accesses
+
+module _ (level count : ℕ) (t : TimerName) where
+  -- the state with what a TVAL write leaves in t
+  abbrev written : State → ℕ → State
+  written s x =
+      withTimers s (put (s .timers) t (writeTval (get (s .timers) t) (usedCount (factsOf s level) s count t) x))
+
+  -- what a TVAL read of t gives
+  abbrev tval : State → ℕ
+  tval s = readTval (get (s .timers) t) (usedCount (factsOf s level) s count t) .value
+
+  pub write-leaves : (s : State) (word operand : ℕ) → isMrs word ≡ false → Permitted s word level (Target.Timer t Tval) → accessOf s word level operand count .next ≡ written s (writtenOperand word operand)
+  unfolding permitted writeOf writeTimer
+  write-leaves s word operand msr p =
+      ap (λ (o : Outcome). o .next) (ends s word level operand count (Target.Timer t Tval) p) ∙ rw msr
+
+  read-gives : (s : State) (word operand : ℕ) → isMrs word ≡ true → Permitted s word level (Target.Timer t Tval) → accessOf s word level operand count .answer .value ≡ tval s
+  unfolding permitted readOf readTimer
+  read-gives s word operand mrs p =
+      ap (λ (o : Outcome). o .answer .value) (ends s word level operand count (Target.Timer t Tval) p) ∙ rw mrs
+
+  tval-of-written : (s : State) (x : ℕ) → count < 2 ^ 64 → get (s .timers) t .enable ≡ true → low32 (tval (written s x)) ≡ low32 x
+  unfolding factsOf
+  tval-of-written s x fits enabled =
+      let old : Timer = get (s .timers) t in
+      let used : ℕ = usedCount (factsOf s level) s count t in
+      ap₂ (λ (y : Timer) (u : ℕ). low32 (readTval y u .value)) (get-put-same (s .timers) t (writeTval old used x)) (used-of-other-timers (factsOf s level) s (written s x .timers) count t)
+      ∙ timer-reads-back old used x (used-fits (factsOf s level) s count t fits) enabled
+
+pub tval-reads-back : TvalReadsBack
+tval-reads-back s write read level operand other count t fits msr mrs permitted-write permitted-read enabled =
+    ap low32 (read-gives level count t _ read other mrs permitted-read)
+    ∙ ap (λ (n : State). low32 (tval level count t n)) (write-leaves level count t s write operand msr permitted-write)
+    ∙ tval-of-written level count t s (writtenOperand write operand) fits enabled
+
+-- ---- for every name with a TVAL
+
+-- a verdict reaches no register but the TVAL of some timer
+abbrev TvalAlone : Verdict → Type 0
+TvalAlone Undefined = Unit {0}
+TvalAlone ToEl1 = Unit {0}
+TvalAlone ToEl2 = Unit {0}
+TvalAlone (Reaches target) = (t : TimerName) × (target ≡ Target.Timer t Tval)
+
+tval-alone : (f : Facts) (name : Name) → HasTval name → (mrs : Bool) → TvalAlone (verdictOf f name mrs)
+unfolding verdictOf
+tval-alone f name ofCntp mrs = cntp-holds TvalAlone Tval tt tt tt (λ t. (t, refl)) f
+tval-alone f name ofCntv mrs = cntv-holds TvalAlone Tval tt tt tt (λ t. (t, refl)) f
+tval-alone f name ofCnthp mrs = cnthp-holds TvalAlone Tval tt tt tt (λ t. (t, refl)) f
+tval-alone f name ofCnthvs mrs = cnthvs-holds TvalAlone Tval tt tt tt (λ t. (t, refl)) f
+
+-- its gate asks the same of a read and of a write
+either-direction : (f : Facts) (name : Name) → HasTval name → (b c : Bool) → verdictOf f name b ≡ verdictOf f name c
+unfolding verdictOf
+either-direction f name ofCntp b c = refl
+either-direction f name ofCntv b c = refl
+either-direction f name ofCnthp b c = refl
+either-direction f name ofCnthvs b c = refl
+
+-- a write that reached a timer leaves features and controls, and so the context and the gates, as they were
+stays-permitted : (level count : ℕ) (t : TimerName) (s : State) (x : ℕ) (read : ℕ) (name : Name) → nameOf read ≡ Lookup.Named name → impossibleAt s level ≡ false → verdictOf (factsOf s level) name (isMrs read) ≡ Reaches (Target.Timer t Tval) → Permitted (written level count t s x) read level (Target.Timer t Tval)
+unfolding factsOf impossible impossibleAt
+stays-permitted level count t s x read name n i v = record { name = name; named = n; possible = i; verdict = v }
+
+pub read-follows-write : ReadFollowsWrite
+read-follows-write s write read level operand count name has n m msr target p =
+    let f : Facts = factsOf s level in
+    let named : p .name ≡ name = cc in
+    let verdict : verdictOf f name (isMrs write) ≡ Reaches target = rw named at (p .verdict) in
+    let alone : TvalAlone (Reaches target) = subst TvalAlone verdict (tval-alone f name has (isMrs write)) in
+    let t : TimerName = alone .0 in
+    let reached : Permitted s write level (Target.Timer t Tval) = subst (Permitted s write level) (alone .1) p in
+    (t, alone .1, subst (λ (s′ : State). Permitted s′ read level (Target.Timer t Tval)) (sym (write-leaves level count t s write operand msr reached)) (stays-permitted level count t s (writtenOperand write operand) read name m (p .possible) (either-direction f name has (isMrs read) (isMrs write) ∙ verdict ∙ ap Reaches (alone .1))))

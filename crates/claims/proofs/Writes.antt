@@ -1,0 +1,93 @@
+-- A write that is answered with 0 was permitted, and leaves what `writeOf` says. That changes one register: for a timer, the
+-- others are as they were by the laws of put, and in it one part by computation.
+-- Assumes nothing.
+use Prim.Native.Nat.{ℕ}
+use mathlib.Core.Bool.{false}
+use mathlib.Core.Logic.{⊎-elim}
+use mathlib.Core.Path.{_≡_, refl, ap, sym, subst, _∙_}
+use Rattle.rules.specs.declared.answer.Outcome.{Outcome}
+use Rattle.rules.specs.declared.facts.Facts.{Facts}
+use Rattle.rules.specs.declared.name.Name.{Name}
+use Rattle.rules.specs.declared.name.Name.the-variants.{Cntpct, Cntvct, Cntpctss, Cntvctss, Cntp, Cntv, Cntvoff, Cnthp, Cnthvs}
+use Rattle.rules.specs.declared.name.Part.{Part}
+use Rattle.rules.specs.declared.name.Part.the-variants.{Tval, Ctl, Cval}
+use Rattle.rules.specs.declared.state.State.{State}
+use Rattle.rules.specs.declared.state.Timer.{Timer}
+use Rattle.rules.specs.declared.state.Timers.{Timers}
+use Rattle.rules.specs.declared.state.TimerName.{TimerName}
+use Rattle.rules.specs.declared.verdict.Target.{Target}
+use Rattle.rules.specs.declared.verdict.Verdict.{Verdict}
+use Rattle.rules.specs.declared.verdict.Verdict.the-variants.{Undefined, ToEl1, ToEl2, Reaches}
+use Rattle.rules.specs.Words.{factsOf}
+use Rattle.rules.specs.Names.{isMrs, writtenOperand}
+use Rattle.rules.specs.El2.{cntvoff}
+use Rattle.rules.specs.Timers.{get, put, withTimers}
+use Rattle.rules.specs.Counts.{usedCount}
+use Rattle.rules.specs.Values.{writeTimer, writeOf}
+use Rattle.rules.specs.Verdicts.{verdictOf}
+use Rattle.rules.specs.Access.{permitted, accessOf}
+use Rattle.rules.proofs.Rules.{at-level-holds}
+use Rattle.rules.proofs.Verdicts.{cntp-holds, cntv-holds, cnthp-holds, cnthvs-holds}
+use Rattle.rules.proofs.Timers.{get-put-same}
+use Rattle.claims.specs.Desk.{Permitted}
+use Rattle.claims.specs.Writes.{OnePart, OneRegister, WritesChangeOne}
+use Rattle.claims.proofs.Ways.{ways}
+
+-- ---- no write reaches a counter
+
+abbrev Writable : Verdict → Type 0
+Writable Undefined = Unit {0}
+Writable ToEl1 = Unit {0}
+Writable ToEl2 = Unit {0}
+Writable (Reaches Target.Cntpct) = ⊥
+Writable (Reaches Target.Cntvct) = ⊥
+Writable (Reaches Target.Cntvoff) = Unit {0}
+Writable (Reaches (Target.Timer t p)) = Unit {0}
+
+cntvoff-writable : (f : Facts) → Writable (cntvoff f)
+unfolding cntvoff
+cntvoff-writable f =
+    at-level-holds Writable (f .level) Undefined Undefined (Reaches Target.Cntvoff) (Reaches Target.Cntvoff) tt tt tt tt
+
+msr-writable : (f : Facts) (name : Name) → Writable (verdictOf f name false)
+unfolding verdictOf
+msr-writable f Cntpct = tt
+msr-writable f Cntvct = tt
+msr-writable f Cntpctss = tt
+msr-writable f Cntvctss = tt
+msr-writable f (Cntp p) = cntp-holds Writable p tt tt tt (λ _. tt) f
+msr-writable f (Cntv p) = cntv-holds Writable p tt tt tt (λ _. tt) f
+msr-writable f Cntvoff = cntvoff-writable f
+msr-writable f (Cnthp p) = cnthp-holds Writable p tt tt tt (λ _. tt) f
+msr-writable f (Cnthvs p) = cnthvs-holds Writable p tt tt tt (λ _. tt) f
+
+permitted-writable : {s : State} {word level : ℕ} {target : Target} → isMrs word ≡ false → Permitted s word level target → Writable (Reaches target)
+permitted-writable {s} {word} {level} {target} msr p =
+    subst Writable (rw msr at (p .verdict)) (msr-writable (factsOf s level) (p .name))
+
+-- ---- and what a write reaches, it changes alone
+
+one-part : (t : Timer) (p : Part) (used x : ℕ) → OnePart p t (writeTimer t p used x)
+unfolding writeTimer
+one-part t Tval used x = refl
+one-part t Ctl used x = refl
+one-part t Cval used x = refl
+
+one-register : (f : Facts) (s : State) (count : ℕ) (target : Target) (x : ℕ) → Writable (Reaches target) → OneRegister target s (writeOf f s count target x)
+unfolding writeOf
+one-register f s count Target.Cntpct x w = w
+one-register f s count Target.Cntvct x w = w
+one-register f s count Target.Cntvoff x w = refl
+one-register f s count (Target.Timer t p) x w =
+    let old : Timer = get (s .timers) t in
+    let new : Timer = writeTimer old p (usedCount f s count t) x in
+    let there : get (put (s .timers) t new) t ≡ new = get-put-same (s .timers) t new in
+    (ap (λ (y : Timer). withTimers s (put (s .timers) t y)) (sym there), subst (λ (y : Timer). OnePart p old y) (sym there) (one-part old p (usedCount f s count t) x))
+
+pub writes-change-one : WritesChangeOne
+unfolding permitted
+writes-change-one s word level operand count msr is-done =
+    ⊎-elim (λ w. absurd (w .1 (sym (ap (λ (o : Outcome). o .answer .number) (w .2)) ∙ is-done)))
+    (λ w. let left : accessOf s word level operand count .next ≡ writeOf (factsOf s level) s count (w .0) (writtenOperand word operand) = ap (λ (o : Outcome). o .next) (w .2) ∙ rw msr in
+    (w .0, w .1, left, subst (λ (n : State). OneRegister (w .0) s n) (sym left) (one-register (factsOf s level) s count (w .0) (writtenOperand word operand) (permitted-writable msr (w .1)))))
+    (ways s word level operand count)

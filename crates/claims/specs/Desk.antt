@@ -1,0 +1,46 @@
+-- What answers accesses, one or one after the other. The claims are of `accessOf`; the impostors are desks too.
+use Prim.Native.Nat.{ℕ}
+use mathlib.Core.Bool.{Bool, true, false}
+use mathlib.Core.List.{List, [], _∷_}
+use mathlib.Core.Path.{_≡_}
+use Rattle.rules.specs.declared.answer.Answer.{Answer}
+use Rattle.rules.specs.declared.answer.Outcome.{Outcome}
+use Rattle.rules.specs.declared.name.Lookup.{Lookup}
+use Rattle.rules.specs.declared.name.Name.{Name}
+use Rattle.rules.specs.declared.state.State.{State}
+use Rattle.rules.specs.declared.verdict.Target.{Target}
+use Rattle.rules.specs.declared.verdict.Verdict.{Verdict}
+use Rattle.rules.specs.Words.{factsOf}
+use Rattle.rules.specs.Names.{nameOf, isMrs}
+use Rattle.rules.specs.Verdicts.{verdictOf}
+use Rattle.rules.specs.Context.{impossibleAt}
+
+-- a state, an instruction word, a level, an operand and a physical count come to an answer and the next state
+abbrev pub Desk : Type 0
+Desk = State → ℕ → ℕ → ℕ → ℕ → Outcome
+
+-- one access, as it is shown to a desk
+pub record Access : Type 0 where
+  pub word : ℕ
+  pub level : ℕ
+  pub operand : ℕ
+  pub count : ℕ
+
+abbrev pub serve : Desk → State → Access → Outcome
+serve desk s a = desk s (a .word) (a .level) (a .operand) (a .count)
+
+-- the answers to accesses one after the other, and the state after the last
+abbrev pub answersTo : Desk → State → List Access → List Answer
+answersTo desk s [] = []
+answersTo desk s (a ∷ rest) = serve desk s a .answer ∷ answersTo desk (serve desk s a .next) rest
+
+abbrev pub stateAfter : Desk → State → List Access → State
+stateAfter desk s [] = s
+stateAfter desk s (a ∷ rest) = stateAfter desk (serve desk s a .next) rest
+
+-- an access is permitted: its word has a name, its context is possible, and the verdict names the register that it reaches
+pub record Permitted (s : State) (word level : ℕ) (target : Target) : Type 0 where
+  pub name : Name
+  pub named : nameOf word ≡ Lookup.Named name
+  pub possible : impossibleAt s level ≡ false
+  pub verdict : verdictOf (factsOf s level) name (isMrs word) ≡ Verdict.Reaches target

@@ -1,0 +1,8 @@
+-- What is claimed of the rulebook, a file for each claim. A statement is a type; proofs/ holds its proof.
+pub mod Desk
+pub mod Refusals
+pub mod Writes
+pub mod ReadBack
+pub mod Guests
+pub mod OneAnswer
+pub mod Impostors

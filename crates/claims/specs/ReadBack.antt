@@ -1,0 +1,44 @@
+-- Demand 2: a timer value that a write took is read back.
+use Prim.Native.Nat.{ℕ, _<_, _^_}
+use mathlib.Core.Bool.{true, false}
+use mathlib.Core.Path.{_≡_}
+use Rattle.rules.specs.declared.name.Lookup.{Lookup}
+use Rattle.rules.specs.declared.name.Name.{Name}
+use Rattle.rules.specs.declared.name.Part.the-variants.{Tval}
+use Rattle.rules.specs.declared.state.State.{State}
+use Rattle.rules.specs.declared.state.Timer.{Timer}
+use Rattle.rules.specs.declared.state.TimerName.{TimerName}
+use Rattle.rules.specs.declared.verdict.Target.{Target}
+use Rattle.rules.specs.Bits.{bits}
+use Rattle.rules.specs.Names.{nameOf, isMrs, writtenOperand}
+use Rattle.rules.specs.Timers.{get}
+use Rattle.rules.specs.Values.{readTval, writeTval}
+use Rattle.rules.specs.Answers.{done}
+use Rattle.rules.specs.Access.{accessOf}
+use Rattle.claims.specs.Desk.{Permitted}
+
+abbrev pub low32 : ℕ → ℕ
+low32 x = bits 31 0 x
+
+-- once over the timer: at one 64-bit count, with the timer enabled, the low 32 bits that a TVAL write took are read back
+abbrev pub TimerReadsBack : Type 0
+TimerReadsBack =
+    (t : Timer) (used x : ℕ) → used < 2 ^ 64 → t .enable ≡ true → low32 (readTval (writeTval t used x) used .value) ≡ low32 x
+
+-- where both accesses are permitted, at one level and one count, and reach the TVAL of one timer that is enabled: the same
+-- low 32 bits as the write took, which is 0 for Rt 31
+abbrev pub TvalReadsBack : Type 0
+TvalReadsBack =
+    (s : State) (write read level operand other count : ℕ) (t : TimerName) → count < 2 ^ 64 → isMrs write ≡ false → isMrs read ≡ true → Permitted s write level (Target.Timer t Tval) → Permitted (accessOf s write level operand count .next) read level (Target.Timer t Tval) → get (s .timers) t .enable ≡ true → low32 (accessOf (accessOf s write level operand count .next) read level other count .answer .value) ≡ low32 (writtenOperand write operand)
+
+-- the names of TVAL registers
+pub data HasTval : Name → Type 0 where
+  ofCntp : HasTval (Name.Cntp Tval)
+  ofCntv : HasTval (Name.Cntv Tval)
+  ofCnthp : HasTval (Name.Cnthp Tval)
+  ofCnthvs : HasTval (Name.Cnthvs Tval)
+
+-- for every such name: where the write is permitted, so is the read, and it reaches the TVAL of the same timer
+abbrev pub ReadFollowsWrite : Type 0
+ReadFollowsWrite =
+    (s : State) (write read level operand count : ℕ) (name : Name) → HasTval name → nameOf write ≡ Lookup.Named name → nameOf read ≡ Lookup.Named name → isMrs write ≡ false → (target : Target) → Permitted s write level target → (t : TimerName) × (target ≡ Target.Timer t Tval) × Permitted (accessOf s write level operand count .next) read level (Target.Timer t Tval)

@@ -1,0 +1,37 @@
+-- Demand 2: a permitted write changes the one register that the rules name and nothing else.
+use Prim.Native.Nat.{ℕ}
+use mathlib.Core.Bool.{false}
+use mathlib.Core.Path.{_≡_}
+use Rattle.rules.specs.declared.name.Part.{Part}
+use Rattle.rules.specs.declared.name.Part.the-variants.{Tval, Ctl, Cval}
+use Rattle.rules.specs.declared.state.State.{State}
+use Rattle.rules.specs.declared.state.Timer.{Timer}
+use Rattle.rules.specs.declared.verdict.Target.{Target}
+use Rattle.rules.specs.declared.verdict.Target.the-variants.{Cntpct, Cntvct, Cntvoff}
+use Rattle.rules.specs.Words.{factsOf}
+use Rattle.rules.specs.Names.{isMrs, writtenOperand}
+use Rattle.rules.specs.Timers.{timerOf, get, put, withTimers, withCntvoff}
+use Rattle.rules.specs.Values.{writeOf}
+use Rattle.rules.specs.Answers.{done}
+use Rattle.rules.specs.Access.{accessOf}
+use Rattle.claims.specs.Desk.{Permitted}
+
+-- of one timer, at most the part that is named has changed: TVAL and CVAL are views of CVAL, CTL is ENABLE and IMASK
+abbrev pub OnePart : Part → Timer → Timer → Type 0
+OnePart Tval old new = new ≡ timerOf (new .cval) (old .enable) (old .imask)
+OnePart Ctl old new = new ≡ timerOf (old .cval) (new .enable) (new .imask)
+OnePart Cval old new = new ≡ timerOf (new .cval) (old .enable) (old .imask)
+
+-- at most the one register has changed: the new state is the old one with what that register now holds put in
+abbrev pub OneRegister : Target → State → State → Type 0
+OneRegister Cntpct old new = ⊥
+OneRegister Cntvct old new = ⊥
+OneRegister Cntvoff old new = new ≡ withCntvoff old (new .cntvoff)
+OneRegister (Target.Timer t p) old new =
+    (new ≡ withTimers old (put (old .timers) t (get (new .timers) t))) × OnePart p (get (old .timers) t) (get (new .timers) t)
+
+-- a write that is answered with 0 was permitted: it leaves in the register that the verdict names what the value rules
+-- say, and changes no other
+abbrev pub WritesChangeOne : Type 0
+WritesChangeOne =
+    (s : State) (word level operand count : ℕ) → isMrs word ≡ false → accessOf s word level operand count .answer .number ≡ done → (target : Target) × Permitted s word level target × (accessOf s word level operand count .next ≡ writeOf (factsOf s level) s count target (writtenOperand word operand)) × OneRegister target s (accessOf s word level operand count .next)
