@@ -1,4 +1,8 @@
 -- The proofs of what specs/ states.
+pub mod GuestGates
+pub mod Guests
+pub mod Impostors
+pub mod OneAnswer
 pub mod ReadBack
 pub mod Refusals
 pub mod Ways
