@@ -7,6 +7,8 @@ use rules::Outcome;
 use rules::State;
 use rules::Value;
 
+pub const DONE: u8 = 0;
+
 pub const UNDEFINED: u8 = 1;
 
 pub const TRAP_TO_EL1: u8 = 2;
@@ -21,7 +23,7 @@ pub fn done_read(rt: u8, v: Value) -> Answer
     ensures { λ r. ⌜ r ≡ doneRead rt v ⌝ }
 {
     Answer {
-        number: 0,
+        number: DONE,
         rt,
         value: v.value,
         mask: v.mask,
@@ -32,7 +34,7 @@ pub fn done_write(rt: u8) -> Answer
     ensures { λ r. ⌜ r ≡ doneWrite rt ⌝ }
 {
     Answer {
-        number: 0,
+        number: DONE,
         rt,
         value: 0,
         mask: 0,

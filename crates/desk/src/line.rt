@@ -4,6 +4,7 @@ ghost use Rattle.rules.specs.Counts.{conditionCount};
 ghost use Rattle.rules.specs.Lines.{linesOf};
 ghost use Rattle.rules.specs.Timers as timers_by_name;
 ghost use Rattle.rules.specs.Values as rule;
+use crate::answers::DONE;
 use crate::answers::IMPOSSIBLE_CONTEXT;
 use crate::context::impossible;
 use gates::offset_on;
@@ -38,7 +39,7 @@ pub fn lines(s: State, physical: u64) -> Lines
     }
     let offset_on = offset_on(s);
     Lines {
-        number: 0,
+        number: DONE,
         cntp: line(offset_on, s, physical, TimerName::Cntp),
         cntv: line(offset_on, s, physical, TimerName::Cntv),
         cnthp: line(offset_on, s, physical, TimerName::Cnthp),

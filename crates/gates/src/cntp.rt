@@ -3,6 +3,7 @@ ghost use mathlib.Core.Path.{_≡_};
 ghost use Rattle.rules.specs.Rules.{first};
 ghost use Rattle.rules.specs.Cntp.{aToD, el1Rule, cntpEl0, cntpEl1};
 ghost use Rattle.rules.specs.Cntp as gate;
+ghost use Rattle.gates.specs.Redirect.{redirectedOf};
 use crate::redirect::redirected;
 use rules::Facts;
 use rules::Part;
@@ -72,19 +73,26 @@ pub fn physical_at_el1(f: Facts, el1pcen: bool, el1pten: bool, otherwise: Verdic
     }
 }
 
+// The timer of an access that no rule stops: EL2's own, or CNTP.
+fn physical_timer(f: Facts, own: bool, p: Part) -> Verdict
+    ensures { λ r. ⌜ r ≡ redirectedOf f own TimerName.Cnthps TimerName.Cnthp TimerName.Cntp p ⌝ }
+{
+    redirected(
+        f,
+        own,
+        TimerName::Cnthps,
+        TimerName::Cnthp,
+        TimerName::Cntp,
+        p,
+    )
+}
+
 fn cntp_at_el0(f: Facts, p: Part) -> Verdict
     ensures { λ r. ⌜ r ≡ cntpEl0 f p ⌝ }
 {
     let k = f.cntkctl;
     let h = f.cnthctl;
-    let otherwise = redirected(
-        f,
-        f.host,
-        TimerName::Cnthps,
-        TimerName::Cnthp,
-        TimerName::Cntp,
-        p,
-    );
+    let otherwise = physical_timer(f, f.host, p);
     physical_at_el0(f, k.el0pten, h.el1pcen, h.el1pten, h.el0pten, otherwise)
 }
 
@@ -107,14 +115,7 @@ pub fn cntp(f: Facts, p: Part) -> Verdict
     match level {
         0 => cntp_at_el0(f, p),
         1 => cntp_at_el1(f, p),
-        2 => redirected(
-            f,
-            f.e2h,
-            TimerName::Cnthps,
-            TimerName::Cnthp,
-            TimerName::Cntp,
-            p,
-        ),
+        2 => physical_timer(f, f.e2h, p),
         _ => Verdict::Reaches(Target::Timer(TimerName::Cntp, p)),
     }
 }

@@ -3,6 +3,7 @@ ghost use mathlib.Core.Path.{_≡_};
 ghost use Rattle.rules.specs.Rules.{first};
 ghost use Rattle.rules.specs.Cntv.{aToC, cntvEl0, cntvEl1};
 ghost use Rattle.rules.specs.Cntv as gate;
+ghost use Rattle.gates.specs.Redirect.{redirectedOf};
 use crate::cntp::denied;
 use crate::redirect::redirected;
 use rules::Facts;
@@ -36,19 +37,26 @@ pub fn virtual_at_el0(
     otherwise
 }
 
+// The timer of an access that no rule stops: EL2's own, or CNTV.
+fn virtual_timer(f: Facts, own: bool, p: Part) -> Verdict
+    ensures { λ r. ⌜ r ≡ redirectedOf f own TimerName.Cnthvs TimerName.Cnthv TimerName.Cntv p ⌝ }
+{
+    redirected(
+        f,
+        own,
+        TimerName::Cnthvs,
+        TimerName::Cnthv,
+        TimerName::Cntv,
+        p,
+    )
+}
+
 fn cntv_at_el0(f: Facts, p: Part) -> Verdict
     ensures { λ r. ⌜ r ≡ cntvEl0 f p ⌝ }
 {
     let k = f.cntkctl;
     let h = f.cnthctl;
-    let otherwise = redirected(
-        f,
-        f.host,
-        TimerName::Cnthvs,
-        TimerName::Cnthv,
-        TimerName::Cntv,
-        p,
-    );
+    let otherwise = virtual_timer(f, f.host, p);
     virtual_at_el0(f, k.el0vten, h.el0vten, h.el1tvt, otherwise)
 }
 
@@ -69,14 +77,7 @@ pub fn cntv(f: Facts, p: Part) -> Verdict
     match level {
         0 => cntv_at_el0(f, p),
         1 => cntv_at_el1(f, p),
-        2 => redirected(
-            f,
-            f.e2h,
-            TimerName::Cnthvs,
-            TimerName::Cnthv,
-            TimerName::Cntv,
-            p,
-        ),
+        2 => virtual_timer(f, f.e2h, p),
         _ => Verdict::Reaches(Target::Timer(TimerName::Cntv, p)),
     }
 }

@@ -22,7 +22,8 @@ pub fn met(t: Timer, condition: u64) -> bool
 pub fn raised(t: Timer, condition: u64) -> bool
     ensures { λ r. ⌜ r ≡ rule.raised t condition ⌝ }
 {
-    t.enable & (t.cval <= condition) & !t.imask
+    let masked = t.imask;
+    met(t, condition) & !masked
 }
 
 fn read_tval(t: Timer, used: u64) -> Value

@@ -14,8 +14,8 @@ cntp-at-el0-requires c κs = search needs
 cntp-at-el1-requires : tie.Need-cntp-at-el1-requires
 cntp-at-el1-requires c κs = search needs
 
-redirected-requires : tie.Need-redirected-requires
-redirected-requires c κs = search needs
+physical-timer-requires : tie.Need-physical-timer-requires
+physical-timer-requires c κs = search needs
 
 returns : tie.Need-returns
 unfolding cntp
@@ -27,11 +27,11 @@ returns-2 c = rw (c .before .match .keys2) (c .cntp-at-el1 .ensures)
 
 returns-3 : tie.Need-returns-3
 unfolding cntp redirectedOf
-returns-3 c = rw (c .before .match .keys3) (c .redirected .ensures)
+returns-3 c = rw (c .before .match .keys3) (c .physical-timer .ensures)
 
 returns-4 : tie.Need-returns-4
 unfolding cntp
 returns-4 c = sym (above-el2 _ _ _ _ _ (c .match .rest))
 
 pub cntp-spec : {M : Type 1} → statement M
-cntp-spec = tie.close (tie.spec cntp-at-el0-requires cntp-at-el1-requires redirected-requires returns returns-2 returns-3 returns-4)
+cntp-spec = tie.close (tie.spec cntp-at-el0-requires cntp-at-el1-requires physical-timer-requires returns returns-2 returns-3 returns-4)

@@ -5,15 +5,15 @@ use Rattle.gates.specs.Redirect.{redirectedOf}
 use Rattle.gates.proofs.cntp.cntp_at_el0.Statement.{statement}
 use Rattle.gates.proofs.cntp.cntp_at_el0.Tie as tie
 
-redirected-requires : tie.Need-redirected-requires
-redirected-requires c κs = search needs
+physical-timer-requires : tie.Need-physical-timer-requires
+physical-timer-requires c κs = search needs
 
 physical-at-el0-requires : tie.Need-physical-at-el0-requires
 physical-at-el0-requires c κs = search needs
 
 returns : tie.Need-returns
 unfolding redirectedOf
-returns c = rw (c .before .redirected .ensures) at (c .physical-at-el0 .ensures)
+returns c = rw (c .before .physical-timer .ensures) at (c .physical-at-el0 .ensures)
 
 pub cntp-at-el0-spec : {M : Type 1} → statement M
-cntp-at-el0-spec = tie.close (tie.spec redirected-requires physical-at-el0-requires returns)
+cntp-at-el0-spec = tie.close (tie.spec physical-timer-requires physical-at-el0-requires returns)

@@ -14,8 +14,8 @@ cntv-at-el0-requires c κs = search needs
 cntv-at-el1-requires : tie.Need-cntv-at-el1-requires
 cntv-at-el1-requires c κs = search needs
 
-redirected-requires : tie.Need-redirected-requires
-redirected-requires c κs = search needs
+virtual-timer-requires : tie.Need-virtual-timer-requires
+virtual-timer-requires c κs = search needs
 
 returns : tie.Need-returns
 unfolding cntv
@@ -27,11 +27,11 @@ returns-2 c = rw (c .before .match .keys2) (c .cntv-at-el1 .ensures)
 
 returns-3 : tie.Need-returns-3
 unfolding cntv redirectedOf
-returns-3 c = rw (c .before .match .keys3) (c .redirected .ensures)
+returns-3 c = rw (c .before .match .keys3) (c .virtual-timer .ensures)
 
 returns-4 : tie.Need-returns-4
 unfolding cntv
 returns-4 c = sym (above-el2 _ _ _ _ _ (c .match .rest))
 
 pub cntv-spec : {M : Type 1} → statement M
-cntv-spec = tie.close (tie.spec cntv-at-el0-requires cntv-at-el1-requires redirected-requires returns returns-2 returns-3 returns-4)
+cntv-spec = tie.close (tie.spec cntv-at-el0-requires cntv-at-el1-requires virtual-timer-requires returns returns-2 returns-3 returns-4)
