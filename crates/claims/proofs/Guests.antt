@@ -28,7 +28,7 @@ use Rattle.rules.specs.Words.{EL0, EL1, EL2, physicalTrapped, factsOf}
 use Rattle.rules.specs.Names.{nameOf, isMrs, rtOf, writtenOperand}
 use Rattle.rules.specs.Verdicts.{verdictOf}
 use Rattle.rules.specs.Timers.{same, get, put, withTimers}
-use Rattle.rules.specs.Counts.{virtual, virtualSeen, usedCount, conditionCount}
+use Rattle.rules.specs.Counts.{virtual, virtualSeen, countOf}
 use Rattle.rules.specs.Values.{known, readTimer, writeTimer, readOf, writeOf}
 use Rattle.rules.specs.Answers.{trapToEl1, trapToEl2, notNamed, impossibleContext, doneRead, doneWrite, undefinedAt, trapped, refused}
 use Rattle.rules.specs.Context.{impossible, impossibleAt}
@@ -86,7 +86,7 @@ module _ (f : Facts) (g : GuestFacts f) (s : State) (word operand count : ℕ) w
   reached-cntvct false e = rw e
 
   reached-cntv : (p : Part) (b : Bool) → isMrs word ≡ b → permitted f s word operand count (Target.Timer Cntv p) ≡ on s (seenBy word operand (s .timers .cntv) (virtual s count) (Reaches (Target.Timer Cntv p)))
-  unfolding permitted readOf writeOf usedCount conditionCount
+  unfolding permitted readOf writeOf countOf
   reached-cntv p true e = rw e
   reached-cntv p false e = rw e
 

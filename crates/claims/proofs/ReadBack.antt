@@ -2,10 +2,9 @@
 -- 64 bits; and taking 32 bits as signed does not touch the low 32.
 -- Assumes nothing.
 use Prim.Native.Nat.{ℕ, _+_, _-_, _%_, _/_, _^_, _<_}
-use mathlib.Core.Bool.{Bool, true, false, cond, _&&_, _||_}
+use mathlib.Core.Bool.{Bool, true, false, cond}
 use mathlib.Core.Path.{_≡_, refl, sym, ap, ap₂, subst, _∙_}
 use native.Mathlib.Omega.{arith}
-use lib.Dec.{eqb}
 use Rattle.rules.specs.declared.answer.Outcome.{Outcome}
 use Rattle.rules.specs.declared.name.Lookup.{Lookup}
 use Rattle.rules.specs.declared.name.Name.{Name}
@@ -16,7 +15,7 @@ use Rattle.rules.specs.declared.verdict.Target.{Target}
 use Rattle.rules.specs.declared.verdict.Verdict.{Verdict}
 use Rattle.rules.specs.declared.verdict.Verdict.the-variants.{Undefined, ToEl1, ToEl2, Reaches}
 use Rattle.rules.specs.Verdicts.{verdictOf}
-use Rattle.rules.specs.Words.{EL0, EL1, factsOf}
+use Rattle.rules.specs.Words.{factsOf}
 use Rattle.rules.specs.Names.{nameOf, isMrs, writtenOperand}
 use Rattle.rules.specs.Context.{impossible, impossibleAt}
 use Rattle.rules.specs.Timers.{get, put, withTimers}
@@ -32,7 +31,7 @@ use Rattle.rules.specs.declared.facts.Facts.{Facts}
 use Rattle.rules.specs.declared.state.State.{State}
 use Rattle.rules.specs.declared.state.TimerName.{TimerName}
 use Rattle.rules.specs.declared.state.TimerName.the-variants.{Cntp, Cntv, Cnthp, Cnthv, Cnthps, Cnthvs}
-use Rattle.rules.specs.Counts.{usedCount, physicalSeen}
+use Rattle.rules.specs.Counts.{offsetSeen, countOf, usedCount}
 use Rattle.claims.specs.ReadBack.{low32, TimerReadsBack, TvalReadsBack, HasTval, ofCntp, ofCntv, ofCnthp, ofCnthvs, ReadFollowsWrite}
 
 takes-off : (used x : ℕ) → used < 2 ^ 64 → x < 2 ^ 64 → (used plus x) less used ≡ x
@@ -56,25 +55,24 @@ either-fits : (b : Bool) (x y : ℕ) → x < 2 ^ 64 → y < 2 ^ 64 → cond b x 
 either-fits true x y h k = h
 either-fits false x y h k = k
 
-used-fits : (f : Facts) (s : State) (count : ℕ) (t : TimerName) → count < 2 ^ 64 → usedCount f s count t < 2 ^ 64
-unfolding usedCount
-used-fits f s count Cntp h =
-    either-fits ((eqb (f .level) EL0 || eqb (f .level) EL1) && f .offset) (count less s .cntpoff) count (less-fits count (s .cntpoff)) h
-used-fits f s count Cntv h = less-fits count (s .cntvoff)
-used-fits f s count Cnthp h = h
-used-fits f s count Cnthv h = h
-used-fits f s count Cnthps h = h
-used-fits f s count Cnthvs h = h
+count-fits : (applies : Bool) (s : State) (count : ℕ) (t : TimerName) → count < 2 ^ 64 → countOf applies s count t < 2 ^ 64
+unfolding countOf
+count-fits applies s count Cntp h = either-fits applies (count less s .cntpoff) count (less-fits count (s .cntpoff)) h
+count-fits applies s count Cntv h = less-fits count (s .cntvoff)
+count-fits applies s count Cnthp h = h
+count-fits applies s count Cnthv h = h
+count-fits applies s count Cnthps h = h
+count-fits applies s count Cnthvs h = h
 
 -- it does not look at the timers
-used-of-other-timers : (f : Facts) (s : State) (ts : Timers) (count : ℕ) (t : TimerName) → usedCount f (withTimers s ts) count t ≡ usedCount f s count t
-unfolding usedCount
-used-of-other-timers f s ts count Cntp = refl
-used-of-other-timers f s ts count Cntv = refl
-used-of-other-timers f s ts count Cnthp = refl
-used-of-other-timers f s ts count Cnthv = refl
-used-of-other-timers f s ts count Cnthps = refl
-used-of-other-timers f s ts count Cnthvs = refl
+count-of-other-timers : (applies : Bool) (s : State) (ts : Timers) (count : ℕ) (t : TimerName) → countOf applies (withTimers s ts) count t ≡ countOf applies s count t
+unfolding countOf
+count-of-other-timers applies s ts count Cntp = refl
+count-of-other-timers applies s ts count Cntv = refl
+count-of-other-timers applies s ts count Cnthp = refl
+count-of-other-timers applies s ts count Cnthv = refl
+count-of-other-timers applies s ts count Cnthps = refl
+count-of-other-timers applies s ts count Cnthvs = refl
 
 -- ---- the two accesses
 
@@ -103,8 +101,8 @@ module _ (level count : ℕ) (t : TimerName) where
   tval-of-written s x fits enabled =
       let old : Timer = get (s .timers) t in
       let used : ℕ = usedCount (factsOf s level) s count t in
-      ap₂ (λ (y : Timer) (u : ℕ). low32 (readTval y u .value)) (get-put-same (s .timers) t (writeTval old used x)) (used-of-other-timers (factsOf s level) s (written s x .timers) count t)
-      ∙ timer-reads-back old used x (used-fits (factsOf s level) s count t fits) enabled
+      ap₂ (λ (y : Timer) (u : ℕ). low32 (readTval y u .value)) (get-put-same (s .timers) t (writeTval old used x)) (count-of-other-timers (offsetSeen (factsOf s level)) s (written s x .timers) count t)
+      ∙ timer-reads-back old used x (count-fits (offsetSeen (factsOf s level)) s count t fits) enabled
 
 pub tval-reads-back : TvalReadsBack
 tval-reads-back s write read level operand other count t fits msr mrs permitted-write permitted-read enabled =

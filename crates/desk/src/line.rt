@@ -11,7 +11,7 @@ use gates::offset_on;
 use rules::Lines;
 use rules::State;
 use rules::TimerName;
-use timers::condition_count;
+use timers::count_of;
 use timers::get;
 use timers::raised;
 
@@ -20,7 +20,7 @@ fn line(offset_on: bool, s: State, physical: u64, t: TimerName) -> bool
 {
     let timers = s.timers;
     let timer = get(timers, t);
-    raised(timer, condition_count(offset_on, s, physical, t))
+    raised(timer, count_of(offset_on, s, physical, t))
 }
 
 pub fn lines(s: State, physical: u64) -> Lines

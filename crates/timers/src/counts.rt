@@ -1,6 +1,6 @@
 // The counts that an access and the timers' conditions go by (document 01, 'Count used' and 'Timer met').
 ghost use mathlib.Core.Path.{_≡_};
-ghost use Rattle.rules.specs.Counts.{virtual, offsetPhysical, physicalSeen, virtualSeen, usedCount, conditionCount};
+ghost use Rattle.rules.specs.Counts.{virtual, offsetPhysical, offsetSeen, physicalSeen, virtualSeen, countOf};
 use crate::arithmetic::sub;
 use rules::Facts;
 use rules::State;
@@ -12,22 +12,28 @@ fn virtual_count(s: State, physical: u64) -> u64
     sub(physical, s.cntvoff)
 }
 
-fn offset_physical(offset_on: bool, s: State, physical: u64) -> u64
-    ensures { λ r. ⌜ r ≡ offsetPhysical «offset_on» s physical ⌝ }
+fn offset_physical(applies: bool, s: State, physical: u64) -> u64
+    ensures { λ r. ⌜ r ≡ offsetPhysical applies s physical ⌝ }
 {
     let cntpoff = s.cntpoff;
-    if offset_on {
+    if applies {
         sub(physical, cntpoff)
     } else {
         physical
     }
 }
 
+// At EL0 and EL1 with offset on.
+pub fn offset_seen(f: Facts) -> bool
+    ensures { λ r. ⌜ r ≡ offsetSeen f ⌝ }
+{
+    ((f.level == 0) | (f.level == 1)) & f.offset
+}
+
 pub fn physical_seen(f: Facts, s: State, physical: u64) -> u64
     ensures { λ r. ⌜ r ≡ physicalSeen f s physical ⌝ }
 {
-    let below_el2 = (f.level == 0) | (f.level == 1);
-    offset_physical(below_el2 & f.offset, s, physical)
+    offset_physical(offset_seen(f), s, physical)
 }
 
 pub fn virtual_seen(f: Facts, s: State, physical: u64) -> u64
@@ -41,24 +47,12 @@ pub fn virtual_seen(f: Facts, s: State, physical: u64) -> u64
     }
 }
 
-pub fn used_count(f: Facts, s: State, physical: u64, t: TimerName) -> u64
-    ensures { λ r. ⌜ r ≡ usedCount f s physical t ⌝ }
+// A timer's count; `applies` says whether CNTPOFF comes off CNTP's.
+pub fn count_of(applies: bool, s: State, physical: u64, t: TimerName) -> u64
+    ensures { λ r. ⌜ r ≡ countOf applies s physical t ⌝ }
 {
     match t {
-        TimerName::Cntp => physical_seen(f, s, physical),
-        TimerName::Cntv => virtual_count(s, physical),
-        TimerName::Cnthp => physical,
-        TimerName::Cnthv => physical,
-        TimerName::Cnthps => physical,
-        TimerName::Cnthvs => physical,
-    }
-}
-
-pub fn condition_count(offset_on: bool, s: State, physical: u64, t: TimerName) -> u64
-    ensures { λ r. ⌜ r ≡ conditionCount «offset_on» s physical t ⌝ }
-{
-    match t {
-        TimerName::Cntp => offset_physical(offset_on, s, physical),
+        TimerName::Cntp => offset_physical(applies, s, physical),
         TimerName::Cntv => virtual_count(s, physical),
         TimerName::Cnthp => physical,
         TimerName::Cnthv => physical,

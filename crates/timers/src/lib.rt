@@ -6,7 +6,7 @@ mod reached;
 mod six;
 mod timer;
 
-pub use counts::condition_count;
+pub use counts::count_of;
 pub use reached::read;
 pub use reached::write;
 pub use six::get;

@@ -2,9 +2,9 @@
 ghost use mathlib.Core.Path.{_≡_};
 ghost use Rattle.rules.specs.Timers.{withCntvoff};
 ghost use Rattle.rules.specs.Values.{known, readOf, writeOf};
-use crate::counts::condition_count;
+use crate::counts::count_of;
+use crate::counts::offset_seen;
 use crate::counts::physical_seen;
-use crate::counts::used_count;
 use crate::counts::virtual_seen;
 use crate::six::get;
 use crate::six::put;
@@ -29,8 +29,8 @@ fn read_part(f: Facts, s: State, physical: u64, t: TimerName, p: Part) -> Value
     let offset_on = f.offset;
     let timers = s.timers;
     let timer = get(timers, t);
-    let used = used_count(f, s, physical, t);
-    let condition = condition_count(offset_on, s, physical, t);
+    let used = count_of(offset_seen(f), s, physical, t);
+    let condition = count_of(offset_on, s, physical, t);
     read_timer(timer, p, used, condition)
 }
 
@@ -50,7 +50,7 @@ fn write_part(f: Facts, s: State, physical: u64, t: TimerName, p: Part, x: u64) 
 {
     let timers = s.timers;
     let timer = get(timers, t);
-    let used = used_count(f, s, physical, t);
+    let used = count_of(offset_seen(f), s, physical, t);
     let written = write_timer(timer, p, used, x);
     let mut next = s;
     next.timers = put(timers, t, written);

@@ -7,14 +7,14 @@ use Rattle.desk.proofs.line.line.Tie as tie
 get-requires : tie.Need-get-requires
 get-requires c κs = search needs
 
-condition-count-requires : tie.Need-condition-count-requires
-condition-count-requires c κs = search needs
+count-of-requires : tie.Need-count-of-requires
+count-of-requires c κs = search needs
 
 raised-requires : tie.Need-raised-requires
 raised-requires c κs = search needs
 
 returns : tie.Need-returns
-returns c = rw (← c .before .before .get .ensures, ← c .before .condition-count .ensures) (c .raised .ensures)
+returns c = rw (← c .before .before .get .ensures, ← c .before .count-of .ensures) (c .raised .ensures)
 
 pub line-spec : {M : Type 1} → statement M
-line-spec = tie.close (tie.spec get-requires condition-count-requires raised-requires returns)
+line-spec = tie.close (tie.spec get-requires count-of-requires raised-requires returns)

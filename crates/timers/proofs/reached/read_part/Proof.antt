@@ -8,25 +8,29 @@ use Rattle.timers.proofs.reached.read_part.Tie as tie
 get-requires : tie.Need-get-requires
 get-requires c κs = search needs
 
-used-count-requires : tie.Need-used-count-requires
-used-count-requires c κs = search needs
+offset-seen-requires : tie.Need-offset-seen-requires
+offset-seen-requires c κs = search needs
 
-condition-count-requires : tie.Need-condition-count-requires
-condition-count-requires c κs = search needs
+count-of-requires : tie.Need-count-of-requires
+count-of-requires c κs = search needs
+
+count-of-requires-2 : tie.Need-count-of-requires-2
+count-of-requires-2 c κs = search needs
 
 read-timer-requires : tie.Need-read-timer-requires
 read-timer-requires c κs = search needs
 
 returns : tie.Need-returns
 unfolding readOf
-returns c = rw (← c .before .before .before .get .ensures, ← c .before .before .used-count .ensures, ← c .before .condition-count .ensures) (c .read-timer .ensures)
+returns c = rw (← c .before .before .before .before .get .ensures, ← c .before .before .before .offset-seen .ensures, ← c .before .before .count-of .ensures, ← c .before .count-of2 .ensures) (c .read-timer .ensures)
 
 pub read-part-spec : {M : Type 1} → statement M
 read-part-spec =
     tie.close
     (tie.spec
     get-requires
-    used-count-requires
-    condition-count-requires
+    offset-seen-requires
+    count-of-requires
+    count-of-requires-2
     read-timer-requires
     returns)

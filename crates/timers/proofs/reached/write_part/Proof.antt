@@ -8,8 +8,11 @@ use Rattle.timers.proofs.reached.write_part.Tie as tie
 get-requires : tie.Need-get-requires
 get-requires c κs = search needs
 
-used-count-requires : tie.Need-used-count-requires
-used-count-requires c κs = search needs
+offset-seen-requires : tie.Need-offset-seen-requires
+offset-seen-requires c κs = search needs
+
+count-of-requires : tie.Need-count-of-requires
+count-of-requires c κs = search needs
 
 write-timer-requires : tie.Need-write-timer-requires
 write-timer-requires c κs = search needs
@@ -19,8 +22,15 @@ put-requires c κs = search needs
 
 returns : tie.Need-returns
 unfolding writeOf
-returns c = rw (c .put .ensures, c .before .write-timer .ensures, c .before .before .used-count .ensures, c .before .before .before .get .ensures)
+returns c = rw (c .put .ensures, c .before .write-timer .ensures, c .before .before .count-of .ensures, c .before .before .before .offset-seen .ensures, c .before .before .before .before .get .ensures)
 
 pub write-part-spec : {M : Type 1} → statement M
 write-part-spec =
-    tie.close (tie.spec get-requires used-count-requires write-timer-requires put-requires returns)
+    tie.close
+    (tie.spec
+    get-requires
+    offset-seen-requires
+    count-of-requires
+    write-timer-requires
+    put-requires
+    returns)

@@ -1,9 +1,9 @@
--- `condition_count` meets its contract: in each arm the timer is known, and `conditionCount` computes to its count.
+-- `count_of` meets its contract: in each arm the timer is known, and `countOf` computes to its count.
 -- Assumes nothing.
 use borrow.Author.Needs.{needs}
-use Rattle.rules.specs.Counts.{conditionCount}
-use Rattle.timers.proofs.counts.condition_count.Statement.{statement}
-use Rattle.timers.proofs.counts.condition_count.Tie as tie
+use Rattle.rules.specs.Counts.{countOf}
+use Rattle.timers.proofs.counts.count_of.Statement.{statement}
+use Rattle.timers.proofs.counts.count_of.Tie as tie
 
 enum-told : tie.Need-enum-told
 enum-told c = search needs
@@ -30,31 +30,31 @@ enum-told-6 : tie.Need-enum-told-6
 enum-told-6 c = search needs
 
 returns : tie.Need-returns
-unfolding conditionCount
+unfolding countOf
 returns c = rw (c .before .enum-told .given .1) (c .offset-physical .ensures)
 
 returns-2 : tie.Need-returns-2
-unfolding conditionCount
+unfolding countOf
 returns-2 c = rw (c .before .enum-told2 .given .1) (c .virtual-count .ensures)
 
 returns-3 : tie.Need-returns-3
-unfolding conditionCount
+unfolding countOf
 returns-3 c = rw (c .enum-told3 .given .1)
 
 returns-4 : tie.Need-returns-4
-unfolding conditionCount
+unfolding countOf
 returns-4 c = rw (c .enum-told4 .given .1)
 
 returns-5 : tie.Need-returns-5
-unfolding conditionCount
+unfolding countOf
 returns-5 c = rw (c .enum-told5 .given .1)
 
 returns-6 : tie.Need-returns-6
-unfolding conditionCount
+unfolding countOf
 returns-6 c = rw (c .enum-told6 .given .1)
 
-pub condition-count-spec : {M : Type 1} → statement M
-condition-count-spec =
+pub count-of-spec : {M : Type 1} → statement M
+count-of-spec =
     tie.close
     (tie.spec
     enum-told
