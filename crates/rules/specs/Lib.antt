@@ -16,4 +16,6 @@ pub mod Answers
 pub mod Context
 pub mod Access
 pub mod Lines
+pub mod Packing
+pub mod Journal
 pub mod Readings

@@ -2,6 +2,7 @@
 mod answer;
 mod facts;
 mod name;
+mod record;
 mod state;
 mod verdict;
 
@@ -15,6 +16,8 @@ pub use facts::Facts;
 pub use name::Lookup;
 pub use name::Name;
 pub use name::Part;
+pub use record::Record;
+pub use record::Run;
 pub use state::Controls;
 pub use state::Features;
 pub use state::State;

@@ -1,0 +1,85 @@
+// One record read and served, and one answer packed (document 01, 'The access journal').
+ghost use mathlib.Core.Path.{_≡_};
+ghost use Prim.Native.Nat.{_+_, _≤_};
+ghost use mathlib.Core.List.{[], _∷_};
+ghost use lib.ListN.{length};
+ghost use Rattle.rules.specs.Packing.{field, packed};
+ghost use Rattle.rules.specs.Journal.{recordAt, recordServed, answerBytes, recordBytes};
+use crate::bytes::read_word;
+use crate::bytes::write_word;
+use desk::access;
+use desk::as_before;
+use desk::refused;
+use rules::Answer;
+use rules::Outcome;
+use rules::Record;
+use rules::State;
+
+// A reserved bit is set.
+const RESERVED_BIT_SET: u8 = 6;
+
+pub fn read_record(journal: &[u8], at: usize) -> Record
+    requires { ⌜ at + recordBytes ≤ length (now journal) ⌝ }
+    ensures { λ r. ⌜ r ≡ recordAt (now (journal .entry)) at ⌝ }
+{
+    let head = read_word(journal, at);
+    let operand = read_word(journal, at + 8);
+    let count = read_word(journal, at + 16);
+    Record {
+        word: ((head >> 32) % 0x1_0000_0000) as u32,
+        level: ((head >> 30) % 4) as u8,
+        reserved: ((head >> 0) % 0x4000_0000) as u32,
+        operand,
+        count,
+    }
+}
+
+pub fn serve(s: State, r: Record) -> Outcome
+    ensures { λ o. ⌜ o ≡ recordServed s r ⌝ }
+{
+    let Record {
+        word,
+        level,
+        reserved,
+        operand,
+        count,
+    } = r;
+    let clear = reserved == 0;
+    if clear {
+        access(s, word, level, operand, count)
+    } else {
+        as_before(s, refused(RESERVED_BIT_SET))
+    }
+}
+
+// The first word of an answer.
+fn head_of(number: u8, rt: u8) -> u64
+    ensures { λ r. ⌜ r ≡ packed (field 4 number ∷ field 5 rt ∷ field 55 0 ∷ []) ⌝ }
+{
+    (wide(number) % 16 * 32 + wide(rt) % 32) * 0x80_0000_0000_0000
+}
+
+fn wide(x: u8) -> u64
+    ensures { λ r. ⌜ r ≡ x ⌝ }
+{
+    x as u64
+}
+
+// A word that is one field.
+fn whole(x: u64) -> u64
+    ensures { λ r. ⌜ r ≡ packed (field 64 x ∷ []) ⌝ }
+{
+    x
+}
+
+pub fn pack(bytes: &mut [u8], a: Answer)
+    requires { ⌜ length (now bytes) ≡ recordBytes ⌝ }
+    ensures { λ _. ⌜ now (bytes .exit) ≡ answerBytes a ⌝ }
+{
+    let head = head_of(a.number, a.rt);
+    let value = whole(a.value);
+    let mask = whole(a.mask);
+    write_word(&mut bytes[0..8], head);
+    write_word(&mut bytes[8..16], value);
+    write_word(&mut bytes[16..24], mask);
+}

@@ -1,0 +1,71 @@
+// The run of a journal over one state, with a lent answer buffer (document 01, 'The access journal').
+ghost use mathlib.Core.Path.{_≡_};
+ghost use mathlib.Core.List.{_++_};
+ghost use Prim.Native.Nat.{_+_, _*_, _≤_, _<_};
+ghost use lib.ListN.{length, take, drop};
+ghost use Rattle.rules.specs.Journal.{recordBytes, recordAt, recordServed, answerBytes, stateAfter, answersOf, runOf, bufferAfter};
+use crate::record::pack;
+use crate::record::read_record;
+use crate::record::serve;
+use rules::Run;
+use rules::State;
+
+// The most records that a journal may have.
+const LIMIT: usize = 1024;
+
+const JOURNAL_REFUSED: u8 = 7;
+
+const BUFFER_REFUSED: u8 = 8;
+
+// One record served: its answer goes into its own 24 bytes of the buffer, and the rest of the buffer stays.
+fn turn(s: State, journal: &[u8], answers: &mut [u8], at: usize) -> State
+    requires { ⌜ at + recordBytes ≤ length (now journal) ⌝ }
+    requires { ⌜ at + recordBytes ≤ length (now answers) ⌝ }
+    ensures { λ r. ⌜ r ≡ recordServed s (recordAt (now (journal .entry)) at) .next ⌝ }
+    ensures { λ _. ⌜ now (answers .exit) ≡ take at (now (answers .entry)) ++ (answerBytes (recordServed s (recordAt (now (journal .entry)) at) .answer) ++ drop (at + recordBytes) (now (answers .entry))) ⌝ }
+{
+    let record = read_record(journal, at);
+    let outcome = serve(s, record);
+    let answer = outcome.answer;
+    pack(&mut answers[at..at + 24], answer);
+    outcome.next
+}
+
+fn serve_all(s: State, journal: &[u8], answers: &mut [u8], n: usize) -> State
+    requires { ⌜ n * recordBytes ≤ length (now journal) ⌝ }
+    requires { ⌜ n * recordBytes ≤ length (now answers) ⌝ }
+    ensures { λ r. ⌜ r ≡ stateAfter s (now (journal .entry)) n ⌝ }
+    ensures { λ _. ⌜ now (answers .exit) ≡ answersOf s (now (journal .entry)) n ++ drop (n * recordBytes) (now (answers .entry)) ⌝ }
+{
+    let mut state = s;
+    let mut i: usize = 0;
+    while i < n {
+        state = turn(state, journal, answers, i * 24);
+        i += 1;
+    }
+    state
+}
+
+// Any journal and any buffer is answered. With 7 or 8 nothing is written and the state is as before.
+pub fn run(s: State, journal: &[u8], answers: &mut [u8]) -> Run
+    ensures { λ r. ⌜ r ≡ runOf s (now (journal .entry)) (now (answers .entry)) ⌝ }
+    ensures { λ _. ⌜ now (answers .exit) ≡ bufferAfter s (now (journal .entry)) (now (answers .entry)) ⌝ }
+{
+    let records = journal.len() / 24;
+    let bad = (journal.len() % 24 != 0) | (LIMIT < records);
+    let short = answers.len() < journal.len();
+    if bad {
+        return Run {
+            number: JOURNAL_REFUSED,
+            next: s,
+        };
+    }
+    if short {
+        return Run {
+            number: BUFFER_REFUSED,
+            next: s,
+        };
+    }
+    let next = serve_all(s, journal, answers, records);
+    Run { number: 0, next }
+}
