@@ -3,4 +3,5 @@ mod bytes;
 mod record;
 mod whole_run;
 
+pub use record::last_count;
 pub use whole_run::run;

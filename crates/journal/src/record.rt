@@ -5,6 +5,7 @@ ghost use mathlib.Core.List.{[], _∷_};
 ghost use lib.ListN.{length};
 ghost use Rattle.rules.specs.Packing.{field, packed};
 ghost use Rattle.rules.specs.Journal.{recordAt, recordServed, answerBytes, recordBytes};
+ghost use Rattle.journal.specs.Last.{lastCount};
 use crate::bytes::read_word;
 use crate::bytes::write_word;
 use desk::access;
@@ -82,4 +83,15 @@ pub fn pack(bytes: &mut [u8], a: Answer)
     write_word(&mut bytes[0..8], head);
     write_word(&mut bytes[8..16], value);
     write_word(&mut bytes[16..24], mask);
+}
+
+// A record ends with its count.
+pub fn last_count(journal: &[u8]) -> u64
+    ensures { λ r. ⌜ r ≡ lastCount (now (journal .entry)) ⌝ }
+{
+    let n = journal.len();
+    if n < 24 {
+        return 0;
+    }
+    read_word(journal, n - 8)
 }
