@@ -3,9 +3,9 @@
 -- Assumes nothing.
 use Prim.Native.Nat.{ℕ, _+_, _-_, _%_, _/_, _^_, _<_}
 use mathlib.Core.Bool.{Bool, true, false, cond}
-use mathlib.Core.Path.{_≡_, refl, sym, ap, ap₂, subst, _∙_}
+use mathlib.Core.Path.{_≡_, refl, sym, ap, subst, subst₂, _∙_}
 use native.Mathlib.Omega.{arith}
-use Rattle.rules.specs.declared.answer.Outcome.{Outcome}
+use Rattle.rules.specs.declared.answer.Value.{Value}
 use Rattle.rules.specs.declared.name.Lookup.{Lookup}
 use Rattle.rules.specs.declared.name.Name.{Name}
 use Rattle.rules.specs.declared.name.Part.the-variants.{Tval}
@@ -16,15 +16,16 @@ use Rattle.rules.specs.declared.verdict.Verdict.{Verdict}
 use Rattle.rules.specs.declared.verdict.Verdict.the-variants.{Undefined, ToEl1, ToEl2, Reaches}
 use Rattle.rules.specs.Verdicts.{verdictOf}
 use Rattle.rules.specs.Words.{factsOf}
-use Rattle.rules.specs.Names.{nameOf, isMrs, writtenOperand}
+use Rattle.rules.specs.Names.{nameOf, isMrs, rtOf, writtenOperand}
 use Rattle.rules.specs.Context.{impossible, impossibleAt}
 use Rattle.rules.specs.Timers.{get, put, withTimers}
 use Rattle.rules.specs.Values.{readTval, writeTval, readTimer, writeTimer, readOf, writeOf}
-use Rattle.rules.specs.Access.{permitted, accessOf}
+use Rattle.rules.specs.Answers.{doneRead}
+use Rattle.rules.specs.Access.{accessOf}
 use Rattle.rules.proofs.Timers.{get-put-same}
 use Rattle.rules.proofs.Verdicts.{cntp-holds, cntv-holds, cnthp-holds, cnthvs-holds}
 use Rattle.claims.specs.Desk.{Permitted}
-use Rattle.claims.proofs.Ways.{ends}
+use Rattle.claims.proofs.Writes.{writes-change-one, reads-give}
 use Rattle.rules.specs.Bits.{bits, bit}
 use Rattle.rules.specs.Arithmetic.{_plus_, _less_, signed32}
 use Rattle.rules.specs.declared.facts.Facts.{Facts}
@@ -32,7 +33,7 @@ use Rattle.rules.specs.declared.state.State.{State}
 use Rattle.rules.specs.declared.state.TimerName.{TimerName}
 use Rattle.rules.specs.declared.state.TimerName.the-variants.{Cntp, Cntv, Cnthp, Cnthv, Cnthps, Cnthvs}
 use Rattle.rules.specs.Counts.{offsetSeen, countOf, usedCount}
-use Rattle.claims.specs.ReadBack.{low32, TimerReadsBack, TvalReadsBack, HasTval, ofCntp, ofCntv, ofCnthp, ofCnthvs, ReadFollowsWrite}
+use Rattle.claims.specs.ReadBack.{low32, ReadsLow, TimerReadsBack, TvalReadsBack, HasTval, ofCntp, ofCntv, ofCnthp, ofCnthvs, ReadFollowsWrite}
 
 takes-off : (used x : ℕ) → used < 2 ^ 64 → x < 2 ^ 64 → (used plus x) less used ≡ x
 takes-off used x h k = omega arith
@@ -43,8 +44,9 @@ signed32-low true x = (omega arith, omega arith)
 signed32-low false x = (omega arith, omega arith)
 
 pub timer-reads-back : TimerReadsBack
-timer-reads-back t used x fits enabled =
-    rw enabled (ap low32 (takes-off used (signed32 x) fits (signed32-low (bit 31 x) x .1)) ∙ signed32-low (bit 31 x) x .0)
+timer-reads-back old now used x fits cval enabled =
+    let low : (low32 (signed32 x) ≡ low32 x) × (signed32 x < 2 ^ 64) = signed32-low (bit 31 x) x in
+    (rw enabled, rw (enabled, cval) (ap low32 (takes-off used (signed32 x) fits (low .1)) ∙ low .0))
 
 -- ---- the count used
 
@@ -83,32 +85,35 @@ module _ (level count : ℕ) (t : TimerName) where
       withTimers s (put (s .timers) t (writeTval (get (s .timers) t) (usedCount (factsOf s level) s count t) x))
 
   -- what a TVAL read of t gives
-  abbrev tval : State → ℕ
-  tval s = readTval (get (s .timers) t) (usedCount (factsOf s level) s count t) .value
+  abbrev tval : State → Value
+  tval s = readTval (get (s .timers) t) (usedCount (factsOf s level) s count t)
 
-  pub write-leaves : (s : State) (word operand : ℕ) → isMrs word ≡ false → Permitted s word level (Target.Timer t Tval) → accessOf s word level operand count .next ≡ written s (writtenOperand word operand)
-  unfolding permitted writeOf writeTimer
-  write-leaves s word operand msr p =
-      ap (λ (o : Outcome). o .next) (ends s word level operand count (Target.Timer t Tval) p) ∙ rw msr
+  write-leaves : (s : State) (word operand : ℕ) → isMrs word ≡ false → Permitted s word level (Target.Timer t Tval) → accessOf s word level operand count .next ≡ written s (writtenOperand word operand)
+  unfolding writeOf writeTimer
+  write-leaves s word operand msr p = writes-change-one s word level operand count (Target.Timer t Tval) msr p .next
 
-  read-gives : (s : State) (word operand : ℕ) → isMrs word ≡ true → Permitted s word level (Target.Timer t Tval) → accessOf s word level operand count .answer .value ≡ tval s
-  unfolding permitted readOf readTimer
-  read-gives s word operand mrs p =
-      ap (λ (o : Outcome). o .answer .value) (ends s word level operand count (Target.Timer t Tval) p) ∙ rw mrs
+  read-gives : (s : State) (word operand : ℕ) → isMrs word ≡ true → Permitted s word level (Target.Timer t Tval) → accessOf s word level operand count .answer ≡ doneRead (rtOf word) (tval s)
+  unfolding readOf readTimer
+  read-gives s word operand mrs p = reads-give s word level operand count (Target.Timer t Tval) mrs p
 
-  tval-of-written : (s : State) (x : ℕ) → count < 2 ^ 64 → get (s .timers) t .enable ≡ true → low32 (tval (written s x)) ≡ low32 x
+  tval-of-written : (s : State) (x : ℕ) → count < 2 ^ 64 → get (s .timers) t .enable ≡ true → ReadsLow (tval (written s x)) x
   unfolding factsOf
   tval-of-written s x fits enabled =
       let old : Timer = get (s .timers) t in
       let used : ℕ = usedCount (factsOf s level) s count t in
-      ap₂ (λ (y : Timer) (u : ℕ). low32 (readTval y u .value)) (get-put-same (s .timers) t (writeTval old used x)) (count-of-other-timers (offsetSeen (factsOf s level)) s (written s x .timers) count t)
-      ∙ timer-reads-back old used x (count-fits (offsetSeen (factsOf s level)) s count t fits) enabled
+      let there : get (written s x .timers) t ≡ writeTval old used x = get-put-same (s .timers) t (writeTval old used x) in
+      let same : usedCount (factsOf s level) (written s x) count t ≡ used = count-of-other-timers (offsetSeen (factsOf s level)) s (written s x .timers) count t in
+      subst₂ (λ (y : Timer) (u : ℕ). ReadsLow (readTval y u) x) (sym there) (sym same)
+      (timer-reads-back old (writeTval old used x) used x (count-fits (offsetSeen (factsOf s level)) s count t fits) refl enabled)
 
 pub tval-reads-back : TvalReadsBack
 tval-reads-back s write read level operand other count t fits msr mrs permitted-write permitted-read enabled =
-    ap low32 (read-gives level count t _ read other mrs permitted-read)
-    ∙ ap (λ (n : State). low32 (tval level count t n)) (write-leaves level count t s write operand msr permitted-write)
-    ∙ tval-of-written level count t s (writtenOperand write operand) fits enabled
+    let x : ℕ = writtenOperand write operand in
+    let next : accessOf s write level operand count .next ≡ written level count t s x = write-leaves level count t s write operand msr permitted-write in (
+      tval level count t (accessOf s write level operand count .next),
+      read-gives level count t _ read other mrs permitted-read,
+      subst (λ (n : State). ReadsLow (tval level count t n) x) (sym next) (tval-of-written level count t s x fits enabled),
+    )
 
 -- ---- for every name with a TVAL
 

@@ -1,5 +1,5 @@
--- A write that is answered with 0 was permitted, and leaves what `writeOf` says. That changes one register: for a timer, the
--- others are as they were by the laws of put, and in it one part by computation.
+-- A permitted write leaves what `writeOf` says. That changes one register: for a timer, the others are as they were by the
+-- laws of put, and in it one part by computation.
 -- Assumes nothing.
 use Prim.Native.Nat.{ℕ}
 use mathlib.Core.Bool.{false}
@@ -30,8 +30,8 @@ use Rattle.rules.proofs.Rules.{at-level-holds}
 use Rattle.rules.proofs.Verdicts.{cntp-holds, cntv-holds, cnthp-holds, cnthvs-holds}
 use Rattle.rules.proofs.Timers.{get-put-same}
 use Rattle.claims.specs.Desk.{Permitted}
-use Rattle.claims.specs.Writes.{OnePart, OneRegister, WritesChangeOne}
-use Rattle.claims.proofs.Ways.{ways}
+use Rattle.claims.specs.Writes.{OnePart, OneRegister, WritesOne, WritesChangeOne, ReadsGive, DoneIsPermitted}
+use Rattle.claims.proofs.Ways.{ways, ends}
 
 -- ---- no write reaches a counter
 
@@ -86,8 +86,22 @@ one-register f s count (Target.Timer t p) x w =
 
 pub writes-change-one : WritesChangeOne
 unfolding permitted
-writes-change-one s word level operand count msr is-done =
-    ⊎-elim (λ w. absurd (w .1 (sym (ap (λ (o : Outcome). o .answer .number) (w .2)) ∙ is-done)))
-    (λ w. let left : accessOf s word level operand count .next ≡ writeOf (factsOf s level) s count (w .0) (writtenOperand word operand) = ap (λ (o : Outcome). o .next) (w .2) ∙ rw msr in
-    (w .0, w .1, left, subst (λ (n : State). OneRegister (w .0) s n) (sym left) (one-register (factsOf s level) s count (w .0) (writtenOperand word operand) (permitted-writable msr (w .1)))))
+writes-change-one s word level operand count target msr p =
+    let f : Facts = factsOf s level in
+    let end : accessOf s word level operand count ≡ permitted f s word operand count target = ends s word level operand count target p in
+    let left : accessOf s word level operand count .next ≡ writeOf f s count target (writtenOperand word operand) = ap (λ (o : Outcome). o .next) end ∙ rw msr in
+    record {
+      answer = ap (λ (o : Outcome). o .answer) end ∙ rw msr;
+      next = left;
+      one = subst (λ (n : State). OneRegister target s n) (sym left) (one-register f s count target (writtenOperand word operand) (permitted-writable msr p));
+    }
+
+pub reads-give : ReadsGive
+unfolding permitted
+reads-give s word level operand count target mrs p =
+    ap (λ (o : Outcome). o .answer) (ends s word level operand count target p) ∙ rw mrs
+
+pub done-is-permitted : DoneIsPermitted
+done-is-permitted s word level operand count is-done =
+    ⊎-elim (λ w. absurd (w .1 (sym (ap (λ (o : Outcome). o .answer .number) (w .2)) ∙ is-done))) (λ w. (w .0, w .1))
     (ways s word level operand count)
