@@ -24,7 +24,7 @@ use Rattle.rules.specs.Counters.{cntpct, cntvct, selfSynchronized, readOnly}
 use Rattle.rules.specs.El2.{cntvoff, cnthp, cnthvs}
 use Rattle.rules.specs.Verdicts.{verdictOf}
 use Rattle.rules.proofs.Rules.{cond-holds, first-holds}
-use Rattle.claims.specs.Guests.{NonsecureGuest, TrappedGuest}
+use Rattle.claims.specs.Guests.{Guest, TrappedGuest}
 
 abbrev Own : TimerName → Type 0
 Own TimerName.Cntp = ⊥

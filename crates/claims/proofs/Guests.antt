@@ -35,7 +35,7 @@ use Rattle.rules.specs.Context.{impossible, impossibleAt}
 use Rattle.rules.specs.Access.{permitted, ruled, served, accessOf}
 use Rattle.rules.proofs.Timers.{get-put-other}
 use Rattle.claims.specs.Desk.{Desk, Access, serve, answersTo, stateAfter}
-use Rattle.claims.specs.Guests.{NonsecureGuest, TrappedGuest, Alike, SameShown, AllShown, OnlyCntvMoved, OneAlike, OneAccess, SequencesAlike, Demand3}
+use Rattle.claims.specs.Guests.{Guest, TrappedGuest, Alike, SameShown, AllShown, OnlyCntvMoved, OneAlike, OneAccess, SequencesAlike, Demand3, GuestClaim}
 use Rattle.claims.proofs.GuestGates.{OwnOnly, GuestFacts, guest-facts, own-only, and-false}
 
 -- ---- what the guest may know, and what it gets by it
@@ -145,7 +145,7 @@ impossible-alike s t e level =
     ap₂ (λ (f : Features) (c : Controls). impossibleAt (machine f c s) level) (e .features) (e .controls)
 
 -- whether a guest is trapped is a matter of the controls
-still-trapped : (s t : State) → s .controls ≡ t .controls → TrappedGuest s → TrappedGuest t
+pub still-trapped : (s t : State) → s .controls ≡ t .controls → TrappedGuest s → TrappedGuest t
 still-trapped s t e g =
     record {
       guest = record {
@@ -186,7 +186,7 @@ one-access s t a b g e h =
 pub stayed : (s : State) → OnlyCntvMoved s s
 stayed s = record { features = refl; controls = refl; cntvoff = refl; cntpoff = refl; others = λ u e. refl }
 
-moved-on : (s m n : State) → OnlyCntvMoved s m → OnlyCntvMoved m n → OnlyCntvMoved s n
+pub moved-on : (s m n : State) → OnlyCntvMoved s m → OnlyCntvMoved m n → OnlyCntvMoved s n
 moved-on s m n p q =
     record {
       features = q .features ∙ p .features;
@@ -197,38 +197,48 @@ moved-on s m n p q =
     }
 
 -- what is shown is shown at virtual counts, and no offset has moved
-still-shown : (s t m n : State) → m .cntvoff ≡ s .cntvoff → n .cntvoff ≡ t .cntvoff → (here there : List Access) → AllShown s t here there → AllShown m n here there
-still-shown s t m n p q [] [] h = tt
-still-shown s t m n p q [] (b ∷ bs) h = h
-still-shown s t m n p q (a ∷ rest) [] h = h
-still-shown s t m n p q (a ∷ rest) (b ∷ bs) h = (
-  record {
-    el0OrEl1 = h .0 .el0OrEl1;
-    word = h .0 .word;
-    level = h .0 .level;
-    operand = h .0 .operand;
-    count = rw (p, q) (h .0 .count);
-  },
-  still-shown s t m n p q rest bs (h .1),
-)
+pub shown-still : (s t m n : State) (a b : Access) → OnlyCntvMoved s m → OnlyCntvMoved t n → SameShown s t a b → SameShown m n a b
+shown-still s t m n a b p q h =
+    record {
+      el0OrEl1 = h .el0OrEl1;
+      word = h .word;
+      level = h .level;
+      operand = h .operand;
+      count = rw (p .cntvoff, q .cntvoff) (h .count);
+    }
+
+pub alike-still : (s t m n : State) → Alike s t → OnlyCntvMoved s m → OnlyCntvMoved t n → m .timers .cntv ≡ n .timers .cntv → Alike m n
+alike-still s t m n e p q cntv =
+    record {
+      features = p .features ∙ e .features ∙ sym (q .features);
+      controls = p .controls ∙ e .controls ∙ sym (q .controls);
+      cntv = cntv;
+    }
+
+all-shown-still : (s t m n : State) → OnlyCntvMoved s m → OnlyCntvMoved t n → (here there : List Access) → AllShown s t here there → AllShown m n here there
+all-shown-still s t m n p q [] [] h = tt
+all-shown-still s t m n p q [] (b ∷ bs) h = h
+all-shown-still s t m n p q (a ∷ rest) [] h = h
+all-shown-still s t m n p q (a ∷ rest) (b ∷ bs) h =
+    (shown-still s t m n a b p q (h .0), all-shown-still s t m n p q rest bs (h .1))
 
 pub any-sequence : (desk : Desk) → OneAccess TrappedGuest desk → Demand3 desk
 any-sequence desk one s t [] [] g e h =
-    record { answers = refl; cntv = e .cntv; onThis = stayed s; onThat = stayed t }
+    record { answers = refl; cntv = e .cntv; here = stayed s; there = stayed t }
 any-sequence desk one s t [] (b ∷ bs) g e h = absurd h
 any-sequence desk one s t (a ∷ rest) [] g e h = absurd h
 any-sequence desk one s t (a ∷ rest) (b ∷ bs) g e h =
     let step : OneAlike desk s t a b = one s t a b g e (h .0) in
     let m : State = serve desk s a .next in
     let n : State = serve desk t b .next in
-    let alike : Alike m n = record { features = step .here .features ∙ e .features ∙ sym (step .there .features); controls = step .here .controls ∙ e .controls ∙ sym (step .there .controls); cntv = step .cntv } in
-    let after : SequencesAlike desk m n rest bs = any-sequence desk one m n rest bs (still-trapped s m (sym (step .here .controls)) g) alike (still-shown s t m n (step .here .cntvoff) (step .there .cntvoff) rest bs (h .1)) in
+    let alike : Alike m n = alike-still s t m n e (step .here) (step .there) (step .cntv) in
+    let after : SequencesAlike desk m n rest bs = any-sequence desk one m n rest bs (still-trapped s m (sym (step .here .controls)) g) alike (all-shown-still s t m n (step .here) (step .there) rest bs (h .1)) in
     record {
       answers = ap₂ (λ (x : Answer) (xs : List Answer). x ∷ xs) (step .answer) (after .answers);
       cntv = after .cntv;
-      onThis = moved-on s m _ (step .here) (after .onThis);
-      onThat = moved-on t n _ (step .there) (after .onThat);
+      here = moved-on s m _ (step .here) (after .here);
+      there = moved-on t n _ (step .there) (after .there);
     }
 
-pub demand-3 : Demand3 accessOf
-demand-3 = any-sequence accessOf one-access
+pub guest-claim : GuestClaim
+guest-claim = record { oneAccess = one-access; anySequence = any-sequence accessOf one-access }

@@ -1,5 +1,5 @@
 -- The impostors stand still and answer alike, so demand 3 admits them; a reading from the bench tells each from the rules.
--- And an untrapped guest: two machines with one virtual count and two physical ones, of which CNTPCT tells.
+-- And a guest that is trapped by halves reads the physical count, or moves CNTP.
 -- Assumes nothing.
 use Prim.Native.Nat.{ℕ}
 use mathlib.Core.Bool.{true, false}
@@ -11,19 +11,23 @@ use lib.ListN.{getD}
 use Rattle.rules.specs.declared.answer.Answer.{Answer}
 use Rattle.rules.specs.declared.answer.Outcome.{Outcome}
 use Rattle.rules.specs.declared.state.State.{State}
+use Rattle.rules.specs.declared.state.Timer.{Timer}
+use Rattle.rules.specs.declared.state.TimerName.{TimerName}
 use Rattle.rules.specs.Words.{EL1, factsOf}
 use Rattle.rules.specs.Names.{nameOf, nameTable, rtOf}
+use Rattle.rules.specs.Cntp.{cntp}
 use Rattle.rules.specs.Counters.{cntpct}
 use Rattle.rules.specs.Verdicts.{verdictOf}
-use Rattle.rules.specs.Values.{known, readOf}
+use Rattle.rules.specs.Counts.{countOf}
+use Rattle.rules.specs.Values.{known, readOf, writeTimer, writeOf}
 use Rattle.rules.specs.Answers.{doneRead, undefinedAt, asBefore}
 use Rattle.rules.specs.Context.{impossible, impossibleAt}
 use Rattle.rules.specs.Access.{permitted, ruled, served, accessOf}
 use Rattle.rules.specs.Readings.{start, Reading, readings, asked}
 use Rattle.rules.proofs.Readings.{readings-hold}
 use Rattle.claims.specs.Desk.{Access}
-use Rattle.claims.specs.Guests.{NonsecureGuest, TrappedGuest, Alike, SameShown, OneAlike, OneAccess, Demand3}
-use Rattle.claims.specs.Impostors.{undefinedToAll, sixHundredToAll, neverStores, ShutOutByDemand2, TrappedIsNeeded}
+use Rattle.claims.specs.Guests.{Guest, TrappedGuest, Alike, SameShown, OneAlike, OneAccess, Demand3}
+use Rattle.claims.specs.Impostors.{undefinedToAll, sixHundredToAll, neverStores, ShutOutByDemand2, ImpostorsClaim, TimerTrapped, CounterTrapped, TrappedIsNeeded}
 use Rattle.claims.proofs.Guests.{stayed, one-access, any-sequence}
 
 -- a desk that never moves the state, and answers alike where it should
@@ -38,46 +42,72 @@ at row l = getD l row (asBefore start (undefinedAt 0))
 bench : (row : ℕ) → at row (map asked readings) ≡ at row (map (λ (r : Reading). r .told) readings)
 bench row = ap (at row) readings-hold
 
-pub undefined-to-all : ShutOutByDemand2 undefinedToAll
+undefined-to-all : ShutOutByDemand2 undefinedToAll
 undefined-to-all =
     record {
       admitted = stands-still (λ s word level operand count. undefinedAt (rtOf word)) (λ s t a b g e h. ap (λ (w : ℕ). undefinedAt (rtOf w)) (h .word));
       shutOut = λ follows. let no : _≡_ {A = ℕ} 1 0 = ap (λ (o : Outcome). o .answer .number) (follows start 0xD53BE040 EL1 0 1000 ∙ bench 0) in omega arith;
     }
 
-pub six-hundred-to-all : ShutOutByDemand2 sixHundredToAll
+six-hundred-to-all : ShutOutByDemand2 sixHundredToAll
 six-hundred-to-all =
     record {
       admitted = stands-still (λ s word level operand count. doneRead (rtOf word) (known 600)) (λ s t a b g e h. ap (λ (w : ℕ). doneRead (rtOf w) (known 600)) (h .word));
       shutOut = λ follows. let no : _≡_ {A = ℕ} 0 3 = ap (λ (o : Outcome). o .answer .number) (follows start 0xD53BE020 EL1 0 1000 ∙ bench 1) in omega arith;
     }
 
-pub never-stores : ShutOutByDemand2 neverStores
+never-stores : ShutOutByDemand2 neverStores
 never-stores =
     record {
       admitted = stands-still (λ s word level operand count. accessOf s word level operand count .answer) (λ s t a b g e h. one-access s t a b g e h .answer);
       shutOut = λ follows. let no : _≡_ {A = ℕ} 0 599 = ap (λ (o : Outcome). o .next .timers .cntv .cval) (follows start 0xD51BE301 EL1 0xFFFFFFFF 1000 ∙ bench 4) in omega arith;
     }
 
--- ---- an untrapped guest
+pub impostors-claim : ImpostorsClaim
+impostors-claim =
+    record { undefinedToAll = undefined-to-all; sixHundredToAll = six-hundred-to-all; neverStores = never-stores }
 
--- EL1PCTEN 1: the guest may read CNTPCT; the machines differ in CNTVOFF
-abbrev untrapped : ℕ → State
-untrapped cntvoff =
+-- ---- a guest that is trapped by halves
+
+-- two machines that differ in CNTVOFF, with a CNTHCTL that opens one half
+abbrev open-to : ℕ → ℕ → State
+open-to cnthctl cntvoff =
     record {
       features = start .features;
-      controls = record { ns = true; eel2 = false; ecven = false; e2h = false; tge = false; cntkctl = 0; cnthctl = 1 };
+      controls = record { ns = true; eel2 = false; ecven = false; e2h = false; tge = false; cntkctl = 0; cnthctl = cnthctl };
       cntvoff = cntvoff;
       cntpoff = 0;
       timers = start .timers;
     }
 
-abbrev readsCntpct : ℕ → Access
-readsCntpct count = record { word = 0xD53BE020; level = EL1; operand = 0; count = count }
+abbrev shown-at : ℕ → ℕ → Access
+shown-at word count = record { word = word; level = EL1; operand = 77; count = count }
 
-pub trapped-is-needed : TrappedIsNeeded
+same-virtual : (cnthctl word : ℕ) → SameShown (open-to cnthctl 0) (open-to cnthctl 1) (shown-at word 5) (shown-at word 6)
+same-virtual cnthctl word =
+    record { el0OrEl1 = inr refl; word = refl; level = refl; operand = refl; count = refl }
+
+guest : (cnthctl : ℕ) → Guest (open-to cnthctl 0)
+guest cnthctl = record { nonsecure = refl; tge0 = refl }
+
+alike : (cnthctl : ℕ) → Alike (open-to cnthctl 0) (open-to cnthctl 1)
+alike cnthctl = record { features = refl; controls = refl; cntv = refl }
+
+-- EL1PCTEN 1: MRS of CNTPCT gives 5 on the one and 6 on the other
+counter-needed : OneAccess TimerTrapped accessOf → ⊥
 unfolding factsOf nameOf nameTable cntpct verdictOf readOf impossible impossibleAt permitted ruled served accessOf
-trapped-is-needed holds =
-    let told : OneAlike accessOf (untrapped 0) (untrapped 1) (readsCntpct 5) (readsCntpct 6) = holds (untrapped 0) (untrapped 1) (readsCntpct 5) (readsCntpct 6) (record { nonsecure = refl; tge0 = refl }) (record { features = refl; controls = refl; cntv = refl }) (record { el0OrEl1 = inr refl; word = refl; level = refl; operand = refl; count = refl }) in
+counter-needed holds =
+    let told : OneAlike accessOf (open-to 1 0) (open-to 1 1) (shown-at 0xD53BE020 5) (shown-at 0xD53BE020 6) = holds (open-to 1 0) (open-to 1 1) (shown-at 0xD53BE020 5) (shown-at 0xD53BE020 6) (record { guest = guest 1; timer = refl }) (alike 1) (same-virtual 1 0xD53BE020) in
     let no : _≡_ {A = ℕ} 5 6 = ap (λ (a : Answer). a .value) (told .answer) in
     omega arith
+
+-- EL1PCEN 1: MSR of CNTP CVAL moves CNTP from 0 to 77
+timer-needed : OneAccess CounterTrapped accessOf → ⊥
+unfolding factsOf nameOf nameTable cntp verdictOf writeOf writeTimer countOf impossible impossibleAt permitted ruled served accessOf
+timer-needed holds =
+    let told : OneAlike accessOf (open-to 2 0) (open-to 2 1) (shown-at 0xD51BE240 5) (shown-at 0xD51BE240 6) = holds (open-to 2 0) (open-to 2 1) (shown-at 0xD51BE240 5) (shown-at 0xD51BE240 6) (record { guest = guest 2; counter = refl }) (alike 2) (same-virtual 2 0xD51BE240) in
+    let no : _≡_ {A = ℕ} 77 0 = ap (λ (t : Timer). t .cval) (told .here .others TimerName.Cntp refl) in
+    omega arith
+
+pub trapped-is-needed : TrappedIsNeeded
+trapped-is-needed = record { counter = counter-needed; timer = timer-needed }

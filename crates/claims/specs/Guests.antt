@@ -1,4 +1,5 @@
--- Demand 3: what a Non-secure guest whose physical timer is trapped can tell, and what it can move.
+-- Demand 3: what a Non-secure guest whose physical counter and physical timer are trapped can tell, and what it can move.
+-- No nested virtualization: the model has no NV bits.
 use Prim.Native.Nat.{ℕ}
 use mathlib.Core.Bool.{true, false}
 use mathlib.Core.List.{List, [], _∷_}
@@ -10,16 +11,17 @@ use Rattle.rules.specs.declared.state.TimerName.the-variants.{Cntv}
 use Rattle.rules.specs.Words.{EL0, EL1, physicalTrapped}
 use Rattle.rules.specs.Timers.{same, get}
 use Rattle.rules.specs.Counts.{virtual}
+use Rattle.rules.specs.Access.{accessOf}
 use Rattle.claims.specs.Desk.{Desk, Access, serve, answersTo, stateAfter}
 
 -- Non-secure, TGE 0
-pub record NonsecureGuest (s : State) : Type 0 where
+pub record Guest (s : State) : Type 0 where
   pub nonsecure : s .controls .ns ≡ true
   pub tge0 : s .controls .tge ≡ false
 
--- and physical counter and physical timer trapped to EL2: demand 3's guest
+-- and physical counter and physical timer trapped to EL2: demand 3's guest; a machine that is alike has such a guest too
 pub record TrappedGuest (s : State) : Type 0 where
-  pub guest : NonsecureGuest s
+  pub guest : Guest s
   pub trapped : physicalTrapped s ≡ true
 
 -- two machines alike in features, controls and the guest's virtual timer; physical count, offsets and every other timer
@@ -37,7 +39,7 @@ pub record SameShown (s t : State) (a b : Access) : Type 0 where
   pub operand : a .operand ≡ b .operand
   pub count : virtual s (a .count) ≡ virtual t (b .count)
 
--- and so each access of two sequences
+-- and so each access of two sequences; the offsets are those of the start, since they do not move
 abbrev pub AllShown : State → State → List Access → List Access → Type 0
 AllShown s t [] [] = Unit {0}
 AllShown s t [] (b ∷ bs) = ⊥
@@ -61,17 +63,22 @@ pub record OneAlike (desk : Desk) (s t : State) (a b : Access) : Type 0 where
 
 -- demand 3 for one access, over what is asked of a guest
 abbrev pub OneAccess : (State → Type 0) → Desk → Type 0
-OneAccess Guest desk =
-    (s t : State) (a b : Access) → Guest s → Alike s t → SameShown s t a b → OneAlike desk s t a b
+OneAccess Asked desk =
+    (s t : State) (a b : Access) → Asked s → Alike s t → SameShown s t a b → OneAlike desk s t a b
 
 -- any sequence: the same answers, the same virtual timer in the end, and nothing else moved on either machine
-pub record SequencesAlike (desk : Desk) (s t : State) (here there : List Access) : Type 0 where
-  pub answers : answersTo desk s here ≡ answersTo desk t there
-  pub cntv : stateAfter desk s here .timers .cntv ≡ stateAfter desk t there .timers .cntv
-  pub onThis : OnlyCntvMoved s (stateAfter desk s here)
-  pub onThat : OnlyCntvMoved t (stateAfter desk t there)
+pub record SequencesAlike (desk : Desk) (s t : State) (as₁ as₂ : List Access) : Type 0 where
+  pub answers : answersTo desk s as₁ ≡ answersTo desk t as₂
+  pub cntv : stateAfter desk s as₁ .timers .cntv ≡ stateAfter desk t as₂ .timers .cntv
+  pub here : OnlyCntvMoved s (stateAfter desk s as₁)
+  pub there : OnlyCntvMoved t (stateAfter desk t as₂)
 
 -- demand 3
 abbrev pub Demand3 : Desk → Type 0
 Demand3 desk =
-    (s t : State) (here there : List Access) → TrappedGuest s → Alike s t → AllShown s t here there → SequencesAlike desk s t here there
+    (s t : State) (as₁ as₂ : List Access) → TrappedGuest s → Alike s t → AllShown s t as₁ as₂ → SequencesAlike desk s t as₁ as₂
+
+-- the claim, over the rule tables: one access and any sequence
+pub record GuestClaim : Type 0 where
+  pub oneAccess : OneAccess TrappedGuest accessOf
+  pub anySequence : Demand3 accessOf

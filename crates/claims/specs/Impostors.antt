@@ -1,13 +1,15 @@
 -- What each demand is worth: three desks that nobody wants meet demand 3, and the rule tables of demand 2 shut out each.
 use Prim.Native.Nat.{ℕ}
+use mathlib.Core.Bool.{cond, false}
 use mathlib.Core.Path.{_≡_}
 use Rattle.rules.specs.declared.state.State.{State}
+use Rattle.rules.specs.Words.{cnthctl}
 use Rattle.rules.specs.Names.{rtOf}
 use Rattle.rules.specs.Values.{known}
 use Rattle.rules.specs.Answers.{doneRead, undefinedAt, asBefore}
 use Rattle.rules.specs.Access.{accessOf}
 use Rattle.claims.specs.Desk.{Desk}
-use Rattle.claims.specs.Guests.{NonsecureGuest, OneAccess, Demand3}
+use Rattle.claims.specs.Guests.{Guest, OneAccess, Demand3}
 
 -- one that says Undefined to all
 abbrev pub undefinedToAll : Desk
@@ -31,6 +33,23 @@ pub record ShutOutByDemand2 (desk : Desk) : Type 0 where
   pub admitted : Demand3 desk
   pub shutOut : FollowsTheRules desk → ⊥
 
--- without 'physical trapped' demand 3 would be false of the rules: an untrapped guest reads the physical count
-abbrev pub TrappedIsNeeded : Type 0
-TrappedIsNeeded = OneAccess NonsecureGuest accessOf → ⊥
+-- the first three of document 01; the fourth copies answers onward, and is tried on the journal's run
+pub record ImpostorsClaim : Type 0 where
+  pub undefinedToAll : ShutOutByDemand2 undefinedToAll
+  pub sixHundredToAll : ShutOutByDemand2 sixHundredToAll
+  pub neverStores : ShutOutByDemand2 neverStores
+
+-- a guest of which only the physical timer, or only the physical counter, is trapped
+pub record TimerTrapped (s : State) : Type 0 where
+  pub guest : Guest s
+  pub timer : cond (s .controls .e2h) (cnthctl s .el1pten) (cnthctl s .el1pcen) ≡ false
+
+pub record CounterTrapped (s : State) : Type 0 where
+  pub guest : Guest s
+  pub counter : cnthctl s .el1pcten ≡ false
+
+-- with either half of 'physical trapped' taken away, demand 3 would be false of the rules: the guest reads the physical
+-- count, or moves CNTP
+pub record TrappedIsNeeded : Type 0 where
+  pub counter : OneAccess TimerTrapped accessOf → ⊥
+  pub timer : OneAccess CounterTrapped accessOf → ⊥
