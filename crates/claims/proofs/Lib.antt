@@ -2,6 +2,7 @@
 pub mod GuestGates
 pub mod Guests
 pub mod Impostors
+pub mod Journals
 pub mod OneAnswer
 pub mod ReadBack
 pub mod Refusals

@@ -4,5 +4,6 @@ pub mod Refusals
 pub mod Writes
 pub mod ReadBack
 pub mod Guests
+pub mod Journals
 pub mod OneAnswer
 pub mod Impostors
