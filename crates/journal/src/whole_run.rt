@@ -52,8 +52,8 @@ pub fn run(s: State, journal: &[u8], answers: &mut [u8]) -> Run
     ensures { λ _. ⌜ now (answers .exit) ≡ bufferAfter s (now (journal .entry)) (now (answers .entry)) ⌝ }
 {
     let records = journal.len() / 24;
-    let bad = (journal.len() % 24 != 0) | (LIMIT < records);
     let short = answers.len() < journal.len();
+    let bad = (journal.len() % 24 != 0) | (LIMIT < records);
     if bad {
         return Run {
             number: JOURNAL_REFUSED,
