@@ -1,3 +1,4 @@
+# shellcheck shell=bash
 # run_program FILE: runs a program of target/bin. They are x86-64; on Arm the kit's emulator runs them.
 run_program() {
     case $(uname -m) in

@@ -1,0 +1,43 @@
+//! Counts aimed at the moment a timer is met, which chance alone seldom hits.
+
+use reading::{Instruction, Register, State, TimerName};
+
+use crate::dice::Dice;
+
+/// A count at, just before or just after the moment the timer is met.
+pub(crate) fn due(dice: &mut Dice, state: &State, timer: TimerName) -> u64 {
+    let offset = match timer {
+        TimerName::Cntv => state.cntvoff,
+        TimerName::Cntp if likely_offset_on(state) => dice.pick(&[state.cntpoff, state.cntpoff, 0]),
+        TimerName::Cntp => dice.pick(&[0, 0, state.cntpoff]),
+        _ if dice.percent(10) => state.cntvoff,
+        _ => 0,
+    };
+    let met_at = state.timer(timer).cval.wrapping_add(offset);
+    met_at.wrapping_add(dice.below(3)).wrapping_sub(1)
+}
+
+fn likely_offset_on(state: &State) -> bool {
+    state.ecv && state.ecven && state.cnthctl >> 12 & 1 == 1
+}
+
+/// The timer an access most likely reaches. It only guides the choice of a count.
+pub(crate) fn likely_timer(
+    state: &State,
+    instruction: Instruction,
+    level: u8,
+) -> Option<TimerName> {
+    use Register::*;
+    let redirected = state.e2h && (level == 2 || level == 0 && state.tge);
+    match (instruction.register, redirected, state.ns) {
+        (CntpTval | CntpCtl | CntpCval, false, _) => Some(TimerName::Cntp),
+        (CntpTval | CntpCtl | CntpCval, true, true) => Some(TimerName::Cnthp),
+        (CntpTval | CntpCtl | CntpCval, true, false) => Some(TimerName::Cnthps),
+        (CntvTval | CntvCtl | CntvCval, false, _) => Some(TimerName::Cntv),
+        (CntvTval | CntvCtl | CntvCval, true, true) => Some(TimerName::Cnthv),
+        (CntvTval | CntvCtl | CntvCval, true, false) => Some(TimerName::Cnthvs),
+        (CnthpTval | CnthpCtl | CnthpCval, ..) => Some(TimerName::Cnthp),
+        (CnthvsTval | CnthvsCtl | CnthvsCval, ..) => Some(TimerName::Cnthvs),
+        (Cntpct | Cntvct | Cntpctss | Cntvctss | Cntvoff, ..) => None,
+    }
+}

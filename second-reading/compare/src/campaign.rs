@@ -1,0 +1,125 @@
+//! Many cases in a row, run against the program and kept.
+
+use std::collections::HashSet;
+use std::num::NonZero;
+use std::sync::atomic::{AtomicU64, Ordering};
+use std::thread;
+
+use reading::{Slip, Tally};
+
+use crate::case::{Case, Kind};
+use crate::difference::explain;
+use crate::expected::expected;
+use crate::program::{Program, Ran};
+
+/// How many differing cases are told of in full.
+const TOLD: usize = 3;
+
+/// A case with what the program wrote for it and how it ended.
+#[derive(Debug)]
+pub struct Captured {
+    pub case: Case,
+    pub ran: Ran,
+}
+
+/// The captured cases of one stretch of seeds.
+#[derive(Debug)]
+pub struct Campaign {
+    pub captured: Vec<Captured>,
+}
+
+impl Captured {
+    fn of(program: &Program, seed: u64) -> Result<Captured, String> {
+        let case = Case::of(seed);
+        let ran = program
+            .run(&case.input())
+            .map_err(|error| format!("case {seed:#018X}: {error}"))?;
+        Ok(Captured { case, ran })
+    }
+
+    /// How the output differs from the expected one, in words. A program that was struck down
+    /// differs whatever it wrote.
+    fn difference(&self, expected: &[u8]) -> Option<String> {
+        let told = explain(&self.case, expected, &self.ran.output);
+        if told.is_none() && self.ran.status.code().is_some() {
+            return None;
+        }
+        let head = || format!("case {:#018X} ended badly:\n", self.case.seed);
+        let errors = self.ran.errors.trim();
+        Some(told.unwrap_or_else(head) + &format!("  probe: {}. {errors}\n", self.ran.status))
+    }
+}
+
+impl Campaign {
+    /// Runs `length` cases, of the seeds from `seed` on.
+    pub fn run(program: &Program, seed: u64, length: u64) -> Result<Campaign, String> {
+        let workers = thread::available_parallelism().map_or(1, NonZero::get);
+        let next = AtomicU64::new(0);
+        let work = || Campaign::take_turns(program, seed, length, &next);
+        let parts: Result<Vec<_>, String> = thread::scope(|scope| {
+            let workers: Vec<_> = (0..workers).map(|_| scope.spawn(work)).collect();
+            let panicked = || Err("a worker panicked".to_string());
+            workers
+                .into_iter()
+                .map(|worker| worker.join().unwrap_or_else(|_| panicked()))
+                .collect()
+        });
+        let mut captured: Vec<Captured> = parts?.into_iter().flatten().collect();
+        captured.sort_by_key(|captured| captured.case.seed.wrapping_sub(seed));
+        Ok(Campaign { captured })
+    }
+
+    /// Captures one case after the other, each the next that no worker has taken.
+    fn take_turns(
+        program: &Program,
+        seed: u64,
+        length: u64,
+        next: &AtomicU64,
+    ) -> Result<Vec<Captured>, String> {
+        let mut captured = Vec::new();
+        loop {
+            let place = next.fetch_add(1, Ordering::Relaxed);
+            if place >= length {
+                return Ok(captured);
+            }
+            captured.push(Captured::of(program, seed.wrapping_add(place))?);
+        }
+    }
+
+    /// The clauses that decided and the records answered, or the differences in words.
+    pub fn compare(&self) -> Result<(Tally, usize), String> {
+        let mut tally = Tally::default();
+        let mut answered = 0;
+        let mut told = Vec::new();
+        for captured in &self.captured {
+            let expected = expected(&captured.case, Slip::None);
+            told.extend(captured.difference(&expected.output));
+            tally.add(&expected.tally);
+            answered += expected.answered;
+        }
+        match told.len() {
+            0 => Ok((tally, answered)),
+            differing => {
+                told.truncate(TOLD);
+                Err(format!("{differing} cases differ\n{}", told.concat()))
+            }
+        }
+    }
+
+    /// How many different start states the program was given.
+    pub fn start_states(&self) -> usize {
+        self.captured
+            .iter()
+            .filter(|captured| captured.case.kind != Kind::ShortImage)
+            .map(|captured| captured.case.state.to_image())
+            .collect::<HashSet<_>>()
+            .len()
+    }
+
+    /// The place of the first case that tells a slipped reading from the program.
+    pub fn catches(&self, slip: Slip) -> Option<usize> {
+        self.captured
+            .iter()
+            .position(|captured| expected(&captured.case, slip).output != captured.ran.output)
+    }
+}

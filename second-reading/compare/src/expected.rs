@@ -1,0 +1,59 @@
+//! What `probe` has to write, as the second reading has it.
+
+use reading::{Reading, Record, Slip, Tally, RECORD_BYTES};
+
+use crate::case::{Case, Kind};
+
+/// The bytes to be written, and the clauses that decided.
+#[derive(Clone, Debug, Default)]
+pub struct Expected {
+    pub output: Vec<u8>,
+    pub tally: Tally,
+    /// How many records were answered.
+    pub answered: usize,
+}
+
+/// The answers, the final state, and the number and the lines at the last record's count.
+/// Under 128 bytes of input nothing is written.
+pub fn expected(case: &Case, slip: Slip) -> Expected {
+    if case.kind == Kind::ShortImage {
+        return Expected::default();
+    }
+    let mut reading = Reading::slipped(case.state, slip);
+    let mut output = vec![0; case.journal.len()];
+    let (count, answered) = match reading.run(&case.journal, &mut output) {
+        0 => (last_count(&case.journal), case.journal.len() / RECORD_BYTES),
+        _ => (0, 0),
+    };
+    output.truncate(answered * RECORD_BYTES);
+    output.extend(reading.state.to_image());
+    let lines = reading.lines(count);
+    output.extend([lines.number, lines.raised]);
+    Expected {
+        output,
+        tally: reading.tally,
+        answered,
+    }
+}
+
+/// The count of the last record, refused or not; 0 if there is none.
+fn last_count(journal: &[u8]) -> u64 {
+    let (records, _) = journal.as_chunks();
+    records
+        .last()
+        .map_or(0, |record| Record::unpack(record).access.count)
+}
+
+#[cfg(test)]
+mod tests {
+    use super::*;
+
+    #[test]
+    fn each_kind_has_the_length_of_its_output() {
+        let lengths: Vec<usize> = (0..8)
+            .map(|seed| expected(&Case::of(seed), Slip::None).output.len())
+            .collect();
+        let full = 1024 * 24 + 130;
+        assert_eq!(lengths, [130, 154, 130, full, 130, 130, 0, 200 * 24 + 130]);
+    }
+}

@@ -1,0 +1,23 @@
+//! The comparison of the second reading with the program `probe`: seeded cases, the running of
+//! the program, differences in words, and what the cases reached.
+
+mod accesses;
+mod aim;
+mod campaign;
+mod case;
+mod coverage;
+mod dice;
+mod difference;
+mod expected;
+mod numbers;
+mod program;
+mod seed;
+mod states;
+
+pub use campaign::{Campaign, Captured};
+pub use case::{Case, Kind, KINDS};
+pub use coverage::coverage_table;
+pub use difference::explain;
+pub use expected::{expected, Expected};
+pub use program::{Program, Ran};
+pub use seed::{fresh_seed, parse_seed};

@@ -1,0 +1,65 @@
+//! The second reading against `probe`: a fixed seed, a fresh seed, and every slip.
+
+use std::process::ExitCode;
+use std::time::Instant;
+
+use compare::{coverage_table, fresh_seed, Campaign, Program, KINDS};
+use reading::Slip;
+
+const FIXED_SEED: u64 = 0x5EC0_4D12_EAD1_4600;
+const CASES: u64 = 38 * KINDS;
+const LEAST_STATES: usize = 1_000;
+const LEAST_RECORDS: usize = 200_000;
+
+fn main() -> ExitCode {
+    match compare_all() {
+        Ok(()) => ExitCode::SUCCESS,
+        Err(report) => {
+            eprintln!("FAILED: {report}");
+            ExitCode::FAILURE
+        }
+    }
+}
+
+fn compare_all() -> Result<(), String> {
+    let probe = Program::probe()?;
+    let fixed = stretch(&probe, "fixed", FIXED_SEED)?;
+    stretch(&probe, "fresh", fresh_seed()?)?;
+    catch_every_slip(&fixed)
+}
+
+fn stretch(probe: &Program, name: &str, seed: u64) -> Result<Campaign, String> {
+    println!("{name} seed {seed:#018X}: {CASES} cases");
+    let begun = Instant::now();
+    let campaign = Campaign::run(probe, seed, CASES)?;
+    let (tally, records) = campaign.compare()?;
+    let states = campaign.start_states();
+    let seconds = begun.elapsed().as_secs_f32();
+    println!("agreed on {states} start states and {records} records in {seconds:.1} s\n");
+    println!("how often each clause decided\n{}", coverage_table(&tally));
+    if states < LEAST_STATES || records < LEAST_RECORDS {
+        return Err(format!(
+            "too little was compared: {LEAST_STATES} states and {LEAST_RECORDS} records are due"
+        ));
+    }
+    match tally.missing().as_slice() {
+        [] => Ok(campaign),
+        missing => Err(format!("clauses never met, seed {seed:#018X}: {missing:?}")),
+    }
+}
+
+fn catch_every_slip(campaign: &Campaign) -> Result<(), String> {
+    let slips = Slip::all();
+    println!("{} slips, and the case that catches each", slips.len());
+    let mut missed = Vec::new();
+    for slip in slips {
+        match campaign.catches(slip) {
+            Some(place) => println!("{slip:<72} case {place:>4}", slip = slip.to_string()),
+            None => missed.push(slip.to_string()),
+        }
+    }
+    match missed.as_slice() {
+        [] => Ok(()),
+        missed => Err(format!("slips not caught: {missed:#?}")),
+    }
+}

@@ -1,0 +1,291 @@
+//! The clauses of the paper: each letter, level, refusal and value rule that can decide.
+
+use crate::register::Direction::{self, Mrs, Msr};
+use crate::register::Register::{self, *};
+use crate::state::TimerName::{self, *};
+use crate::tally::Cell;
+
+/// The ways in which a clause has to be met before it counts as met.
+#[derive(Clone, Copy, Debug, PartialEq, Eq)]
+pub enum Scope {
+    /// Once, anyhow.
+    Once,
+    /// By each of these registers in each of these directions.
+    Calls(&'static [Register], &'static [Direction]),
+    /// For each of these timers.
+    Timers(&'static [TimerName]),
+    /// No journal given to a program can reach it.
+    OutsideJournals,
+}
+
+impl Scope {
+    /// Each way by itself.
+    pub fn cells(self) -> Vec<Cell> {
+        match self {
+            Scope::Once => vec![Cell::Whole],
+            Scope::Calls(registers, directions) => registers
+                .iter()
+                .flat_map(|&register| directions.iter().map(move |&d| Cell::Call(register, d)))
+                .collect(),
+            Scope::Timers(timers) => timers.iter().copied().map(Cell::Timer).collect(),
+            Scope::OutsideJournals => Vec::new(),
+        }
+    }
+}
+
+const READ: &[Direction] = &[Mrs];
+const WRITE: &[Direction] = &[Msr];
+const BOTH: &[Direction] = &[Mrs, Msr];
+
+const CNTP: Scope = Scope::Calls(&[CntpTval, CntpCtl, CntpCval], BOTH);
+const CNTV: Scope = Scope::Calls(&[CntvTval, CntvCtl, CntvCval], BOTH);
+const CNTPCT: Scope = Scope::Calls(&[Cntpct, Cntpctss], READ);
+const CNTVCT: Scope = Scope::Calls(&[Cntvct, Cntvctss], READ);
+const CNTVOFF: Scope = Scope::Calls(&[Cntvoff], BOTH);
+const CNTHP: Scope = Scope::Calls(&[CnthpTval, CnthpCtl, CnthpCval], BOTH);
+const CNTHVS: Scope = Scope::Calls(&[CnthvsTval, CnthvsCtl, CnthvsCval], BOTH);
+const CNTP_TVAL: Scope = Scope::Calls(&[CntpTval], BOTH);
+const CNTV_TVAL: Scope = Scope::Calls(&[CntvTval], BOTH);
+const SIX: Scope = Scope::Timers(&TimerName::ALL);
+const PHYSICAL_FOUR: Scope = Scope::Timers(&[Cnthp, Cnthv, Cnthps, Cnthvs]);
+const ONLY_CNTP: Scope = Scope::Timers(&[Cntp]);
+const ONLY_CNTV: Scope = Scope::Timers(&[Cntv]);
+
+macro_rules! clauses {
+    ($($name:ident $scope:expr, $words:literal;)*) => {
+        /// A clause of the paper that can decide.
+        #[derive(Clone, Copy, Debug, PartialEq, Eq, PartialOrd, Ord)]
+        pub enum Clause { $($name,)* }
+
+        impl Clause {
+            pub const ALL: &'static [Clause] = &[$(Clause::$name,)*];
+
+            /// The clause in words close to the paper's.
+            pub fn words(self) -> &'static str {
+                match self { $(Clause::$name => $words,)* }
+            }
+
+            pub fn scope(self) -> Scope {
+                match self { $(Clause::$name => $scope,)* }
+            }
+        }
+    };
+}
+
+clauses! {
+    JournalRagged Scope::Once, "7: not a whole number of records";
+    JournalTooLong Scope::Once, "7: over 1,024 records";
+    BufferShort Scope::OutsideJournals, "8: answer buffer shorter than the journal";
+    RunDone Scope::Once, "0: the run not refused";
+    ReservedBit Scope::Once, "6: reserved bit set";
+    NotMrsOrMsr Scope::Once, "4: not MRS or MSR";
+    NotInTheTable Scope::Once, "4: not in the name table";
+    LevelAbove3 Scope::OutsideJournals, "5: level above 3";
+    E2hWithoutVhe Scope::Once, "5: E2H 1 without VHE";
+    Eel2WithoutSel2 Scope::Once, "5: EEL2 1 without SEL2";
+    EcvenWithoutEcv Scope::Once, "5: ECVEn 1 without ECV";
+    CnthctlWithoutEcv Scope::Once, "5: CNTHCTL bits 12 to 14 without ECV";
+    El2NotOn Scope::Once, "5: level EL2 with EL2 not on";
+    El1UnderTge Scope::Once, "5: level EL1 with EL2 on and TGE 1";
+
+    CntpEl0AToEl1 CNTP, "CNTP EL0 (a): EL1";
+    CntpEl0AToEl2 CNTP, "CNTP EL0 (a): EL2 on and TGE 1, EL2";
+    CntpEl0B CNTP, "CNTP EL0 (b): EL2";
+    CntpEl0C CNTP, "CNTP EL0 (c): EL2";
+    CntpEl0D CNTP, "CNTP EL0 (d): EL2";
+    CntpEl0E CNTP, "CNTP EL0 (e): CNTHPS";
+    CntpEl0F CNTP, "CNTP EL0 (f): CNTHP";
+    CntpEl0G CNTP, "CNTP EL0 (g): CNTP";
+    CntpEl1Pcen CNTP, "CNTP EL1, E2H 0 and EL1PCEN 0: EL2";
+    CntpEl1Pten CNTP, "CNTP EL1, E2H 1 and EL1PTEN 0: EL2";
+    CntpEl1 CNTP, "CNTP EL1: CNTP";
+    CntpEl2Secure CNTP, "CNTP EL2, E2H 1 and secure: CNTHPS";
+    CntpEl2NotSecure CNTP, "CNTP EL2, E2H 1 and not secure: CNTHP";
+    CntpEl2 CNTP, "CNTP EL2: CNTP";
+    CntpEl3 CNTP, "CNTP EL3: CNTP";
+
+    CntvEl0AToEl1 CNTV, "CNTV EL0 (a): EL1";
+    CntvEl0AToEl2 CNTV, "CNTV EL0 (a): EL2 on and TGE 1, EL2";
+    CntvEl0B CNTV, "CNTV EL0 (b): EL2";
+    CntvEl0C CNTV, "CNTV EL0 (c): EL2";
+    CntvEl0D CNTV, "CNTV EL0 (d): CNTHVS";
+    CntvEl0E CNTV, "CNTV EL0 (e): CNTHV";
+    CntvEl0F CNTV, "CNTV EL0 (f): CNTV";
+    CntvEl1Tvt CNTV, "CNTV EL1, EL1TVT 1: EL2";
+    CntvEl1 CNTV, "CNTV EL1: CNTV";
+    CntvEl2Secure CNTV, "CNTV EL2, E2H 1 and secure: CNTHVS";
+    CntvEl2NotSecure CNTV, "CNTV EL2, E2H 1 and not secure: CNTHV";
+    CntvEl2 CNTV, "CNTV EL2: CNTV";
+    CntvEl3 CNTV, "CNTV EL3: CNTV";
+
+    SsWithoutEcv Scope::Calls(&[Cntpctss, Cntvctss], BOTH), "SS forms Undefined without ECV";
+    CounterWritten Scope::Calls(&[Cntpct, Cntvct, Cntpctss, Cntvctss], WRITE),
+        "counters Undefined for MSR";
+
+    CntpctEl0AToEl1 CNTPCT, "CNTPCT EL0 (a): EL1";
+    CntpctEl0AToEl2 CNTPCT, "CNTPCT EL0 (a): EL2 on and TGE 1, EL2";
+    CntpctEl0B CNTPCT, "CNTPCT EL0 (b): EL2";
+    CntpctEl0C CNTPCT, "CNTPCT EL0 (c): EL2";
+    CntpctEl0D CNTPCT, "CNTPCT EL0 (d): EL2";
+    CntpctEl0 CNTPCT, "CNTPCT EL0: allowed";
+    CntpctEl1E2h0 CNTPCT, "CNTPCT EL1, E2H 0 and EL1PCTEN 0: EL2";
+    CntpctEl1E2h1 CNTPCT, "CNTPCT EL1, E2H 1 and EL1PCTEN 0: EL2";
+    CntpctEl1 CNTPCT, "CNTPCT EL1: allowed";
+    CntpctEl2 CNTPCT, "CNTPCT EL2: allowed";
+    CntpctEl3 CNTPCT, "CNTPCT EL3: allowed";
+    CntpctLessOffsetEl0 CNTPCT, "CNTPCT value at EL0, offset on: less CNTPOFF";
+    CntpctLessOffsetEl1 CNTPCT, "CNTPCT value at EL1, offset on: less CNTPOFF";
+    CntpctPhysicalEl0 CNTPCT, "CNTPCT value at EL0, offset not on: physical";
+    CntpctPhysicalEl1 CNTPCT, "CNTPCT value at EL1, offset not on: physical";
+    CntpctPhysicalAbove CNTPCT, "CNTPCT value at EL2 and EL3: physical";
+
+    CntvctEl0AToEl1 CNTVCT, "CNTVCT EL0 (a): EL1";
+    CntvctEl0AToEl2 CNTVCT, "CNTVCT EL0 (a): EL2 on and TGE 1, EL2";
+    CntvctEl0B CNTVCT, "CNTVCT EL0 (b): EL2";
+    CntvctEl0C CNTVCT, "CNTVCT EL0 (c): EL2";
+    CntvctEl0 CNTVCT, "CNTVCT EL0: allowed";
+    CntvctEl1Tvct CNTVCT, "CNTVCT EL1, EL1TVCT 1: EL2";
+    CntvctEl1 CNTVCT, "CNTVCT EL1: allowed";
+    CntvctEl2 CNTVCT, "CNTVCT EL2: allowed";
+    CntvctEl3 CNTVCT, "CNTVCT EL3: allowed";
+    CntvctHost CNTVCT, "CNTVCT value for host at EL0: physical";
+    CntvctE2h CNTVCT, "CNTVCT value at EL2 with E2H 1: physical";
+    CntvctLessOffset CNTVCT, "CNTVCT value, EL2 on: less CNTVOFF";
+    CntvctLessOffsetEl2Off CNTVCT, "CNTVCT value, EL2 not on: less CNTVOFF";
+
+    CntvoffEl0 CNTVOFF, "CNTVOFF EL0: Undefined";
+    CntvoffEl1 CNTVOFF, "CNTVOFF EL1: Undefined";
+    CntvoffEl2 CNTVOFF, "CNTVOFF EL2: allowed";
+    CntvoffEl3 CNTVOFF, "CNTVOFF EL3: allowed";
+    CnthpEl0 CNTHP, "CNTHP EL0: Undefined";
+    CnthpEl1 CNTHP, "CNTHP EL1: Undefined";
+    CnthpEl2 CNTHP, "CNTHP EL2: allowed";
+    CnthpEl3 CNTHP, "CNTHP EL3: allowed";
+    CnthvsMissing CNTHVS, "CNTHVS without VHE or SEL2: Undefined";
+    CnthvsEl0 CNTHVS, "CNTHVS EL0: Undefined";
+    CnthvsEl1 CNTHVS, "CNTHVS EL1: Undefined";
+    CnthvsEl2NotSecure CNTHVS, "CNTHVS EL2, not secure: Undefined";
+    CnthvsEl2 CNTHVS, "CNTHVS EL2: allowed";
+    CnthvsEl3Eel2 CNTHVS, "CNTHVS EL3, EEL2 0: Undefined";
+    CnthvsEl3 CNTHVS, "CNTHVS EL3: allowed";
+
+    CountCntpLessOffsetEl0 CNTP_TVAL, "count for CNTP at EL0, offset on: less CNTPOFF";
+    CountCntpLessOffsetEl1 CNTP_TVAL, "count for CNTP at EL1, offset on: less CNTPOFF";
+    CountCntpEl0 CNTP_TVAL, "count for CNTP at EL0, offset not on: physical";
+    CountCntpEl1 CNTP_TVAL, "count for CNTP at EL1, offset not on: physical";
+    CountCntpEl2 CNTP_TVAL, "count for CNTP at EL2: physical";
+    CountCntpEl3 CNTP_TVAL, "count for CNTP at EL3: physical";
+    CountCntv CNTV_TVAL, "count for CNTV, EL2 on: less CNTVOFF";
+    CountCntvEl2Off CNTV_TVAL, "count for CNTV, EL2 not on: less CNTVOFF";
+    CountPhysical PHYSICAL_FOUR, "count for the other timers: physical";
+
+    TvalUnknown SIX, "TVAL read, ENABLE 0: 64 bits unknown";
+    TvalRead SIX, "TVAL read, ENABLE 1: CVAL less the count";
+    TvalWritten SIX, "TVAL write: count plus signed low 32 bits";
+    CtlUnknown SIX, "CTL read, ENABLE 0: bit 2 unknown";
+    CtlMet SIX, "CTL read, ENABLE 1 and met: ISTATUS 1";
+    CtlNotMet SIX, "CTL read, ENABLE 1 and not met: ISTATUS 0";
+    CtlAtCval SIX, "CTL read, ENABLE 1 and the count just at CVAL: met";
+    CtlBelowCval SIX, "CTL read, ENABLE 1 and the count 1 below CVAL: not met";
+    CtlWritten SIX, "CTL write: bits 0 and 1 kept";
+    CvalRead SIX, "CVAL read whole";
+    CvalWritten SIX, "CVAL written whole";
+    CntvoffRead Scope::Once, "CNTVOFF read whole";
+    CntvoffWritten Scope::Once, "CNTVOFF written whole";
+    Rt31Read Scope::Calls(&Register::ALL, READ), "MRS with Rt 31 answers like any other";
+    Rt31Written Scope::Calls(
+        &[
+            CntpTval, CntpCtl, CntpCval, CntvTval, CntvCtl, CntvCval, Cntvoff, CnthpTval, CnthpCtl,
+            CnthpCval, CnthvsTval, CnthvsCtl, CnthvsCval,
+        ],
+        WRITE,
+    ), "MSR with Rt 31 writes 0";
+
+    MetCountCntv ONLY_CNTV, "met, CNTV: physical less CNTVOFF";
+    MetCountHouseRule ONLY_CNTP, "met, CNTP with offset on: less CNTPOFF (house rule)";
+    MetCountCntp ONLY_CNTP, "met, CNTP with offset not on: physical";
+    MetCountPhysical PHYSICAL_FOUR, "met, other timers: physical";
+
+    LinesE2hWithoutVhe Scope::Once, "lines, 5: E2H 1 without VHE";
+    LinesEel2WithoutSel2 Scope::Once, "lines, 5: EEL2 1 without SEL2";
+    LinesEcvenWithoutEcv Scope::Once, "lines, 5: ECVEn 1 without ECV";
+    LinesCnthctlWithoutEcv Scope::Once, "lines, 5: CNTHCTL bits 12 to 14 without ECV";
+    LineDisabled SIX, "line: ENABLE 0, not raised";
+    LineNotMet SIX, "line: not met, not raised";
+    LineMasked SIX, "line: met with IMASK 1, not raised";
+    LineRaised SIX, "line: met with IMASK 0, raised";
+    LineAtCval SIX, "line: ENABLE 1 and the count just at CVAL: met";
+    LineBelowCval SIX, "line: ENABLE 1 and the count 1 below CVAL: not met";
+}
+
+impl Clause {
+    /// The clauses whose absence a [`Slip`](crate::Slip) can play.
+    pub const GATES: &'static [Clause] = &[
+        Clause::JournalRagged,
+        Clause::ReservedBit,
+        Clause::E2hWithoutVhe,
+        Clause::Eel2WithoutSel2,
+        Clause::EcvenWithoutEcv,
+        Clause::CnthctlWithoutEcv,
+        Clause::El2NotOn,
+        Clause::El1UnderTge,
+        Clause::CntpEl0AToEl1,
+        Clause::CntpEl0AToEl2,
+        Clause::CntpEl0B,
+        Clause::CntpEl0C,
+        Clause::CntpEl0D,
+        Clause::CntpEl0E,
+        Clause::CntpEl0F,
+        Clause::CntpEl1Pcen,
+        Clause::CntpEl1Pten,
+        Clause::CntpEl2Secure,
+        Clause::CntpEl2NotSecure,
+        Clause::CntvEl0AToEl1,
+        Clause::CntvEl0AToEl2,
+        Clause::CntvEl0B,
+        Clause::CntvEl0C,
+        Clause::CntvEl0D,
+        Clause::CntvEl0E,
+        Clause::CntvEl1Tvt,
+        Clause::CntvEl2Secure,
+        Clause::CntvEl2NotSecure,
+        Clause::SsWithoutEcv,
+        Clause::CounterWritten,
+        Clause::CntpctEl0AToEl1,
+        Clause::CntpctEl0AToEl2,
+        Clause::CntpctEl0B,
+        Clause::CntpctEl0C,
+        Clause::CntpctEl0D,
+        Clause::CntpctEl1E2h0,
+        Clause::CntpctEl1E2h1,
+        Clause::CntpctLessOffsetEl0,
+        Clause::CntpctLessOffsetEl1,
+        Clause::CntvctEl0AToEl1,
+        Clause::CntvctEl0AToEl2,
+        Clause::CntvctEl0B,
+        Clause::CntvctEl0C,
+        Clause::CntvctEl1Tvct,
+        Clause::CntvctHost,
+        Clause::CntvctE2h,
+        Clause::CntvoffEl0,
+        Clause::CntvoffEl1,
+        Clause::CnthpEl0,
+        Clause::CnthpEl1,
+        Clause::CnthvsMissing,
+        Clause::CnthvsEl0,
+        Clause::CnthvsEl1,
+        Clause::CnthvsEl2NotSecure,
+        Clause::CnthvsEl3Eel2,
+        Clause::CountCntpLessOffsetEl0,
+        Clause::CountCntpLessOffsetEl1,
+        Clause::TvalUnknown,
+        Clause::CtlUnknown,
+        Clause::Rt31Written,
+        Clause::MetCountHouseRule,
+        Clause::LinesE2hWithoutVhe,
+        Clause::LinesEel2WithoutSel2,
+        Clause::LinesEcvenWithoutEcv,
+        Clause::LinesCnthctlWithoutEcv,
+        Clause::LineMasked,
+    ];
+}

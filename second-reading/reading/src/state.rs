@@ -1,0 +1,100 @@
+//! The state of the machine the paper models.
+
+/// An exception level that exists.
+#[derive(Clone, Copy, Debug, PartialEq, Eq, PartialOrd, Ord)]
+pub enum Level {
+    El0,
+    El1,
+    El2,
+    El3,
+}
+
+impl Level {
+    pub const ALL: [Level; 4] = [Level::El0, Level::El1, Level::El2, Level::El3];
+
+    /// The level of that number, if there is one.
+    pub fn of(number: u8) -> Option<Level> {
+        Level::ALL.get(usize::from(number)).copied()
+    }
+}
+
+/// The six timers, in the paper's order.
+#[derive(Clone, Copy, Debug, PartialEq, Eq, PartialOrd, Ord)]
+pub enum TimerName {
+    Cntp,
+    Cntv,
+    Cnthp,
+    Cnthv,
+    Cnthps,
+    Cnthvs,
+}
+
+impl TimerName {
+    pub const ALL: [TimerName; 6] = [
+        TimerName::Cntp,
+        TimerName::Cntv,
+        TimerName::Cnthp,
+        TimerName::Cnthv,
+        TimerName::Cnthps,
+        TimerName::Cnthvs,
+    ];
+
+    pub fn name(self) -> &'static str {
+        match self {
+            TimerName::Cntp => "CNTP",
+            TimerName::Cntv => "CNTV",
+            TimerName::Cnthp => "CNTHP",
+            TimerName::Cnthv => "CNTHV",
+            TimerName::Cnthps => "CNTHPS",
+            TimerName::Cnthvs => "CNTHVS",
+        }
+    }
+}
+
+/// One timer's registers.
+#[derive(Clone, Copy, Debug, Default, PartialEq, Eq)]
+pub struct Timer {
+    pub cval: u64,
+    pub enable: bool,
+    pub imask: bool,
+}
+
+/// The whole state. The level and the physical count come with each access.
+#[derive(Clone, Copy, Debug, Default, PartialEq, Eq)]
+pub struct State {
+    pub vhe: bool,
+    pub sel2: bool,
+    pub ecv: bool,
+    pub ns: bool,
+    pub eel2: bool,
+    pub ecven: bool,
+    pub e2h: bool,
+    pub tge: bool,
+    pub cntkctl: u32,
+    pub cnthctl: u32,
+    pub cntvoff: u64,
+    pub cntpoff: u64,
+    pub timers: [Timer; 6],
+}
+
+impl State {
+    /// The state the readings from the bench begin in.
+    pub fn bench() -> State {
+        State {
+            vhe: true,
+            sel2: true,
+            ns: true,
+            cntkctl: 0x303,
+            cntvoff: 400,
+            ..State::default()
+        }
+    }
+
+    pub fn timer(&self, name: TimerName) -> &Timer {
+        &self.timers[name as usize]
+    }
+
+    pub fn timer_mut(&mut self, name: TimerName) -> &mut Timer {
+        &mut self.timers[name as usize]
+    }
+}
