@@ -8,7 +8,8 @@ use native.Mathlib.Omega.{arith}
 use Rattle.rules.specs.declared.answer.Value.{Value}
 use Rattle.rules.specs.declared.name.Lookup.{Lookup}
 use Rattle.rules.specs.declared.name.Name.{Name}
-use Rattle.rules.specs.declared.name.Part.the-variants.{Tval}
+use Rattle.rules.specs.declared.name.Name.the-variants.{Cntpct, Cntvct, Cntpctss, Cntvctss, Cntp, Cntv, Cntvoff, Cnthp, Cnthvs}
+use Rattle.rules.specs.declared.name.Part.the-variants.{Tval, Ctl, Cval}
 use Rattle.rules.specs.declared.state.Timer.{Timer}
 use Rattle.rules.specs.declared.state.Timers.{Timers}
 use Rattle.rules.specs.declared.verdict.Target.{Target}
@@ -31,9 +32,8 @@ use Rattle.rules.specs.Arithmetic.{_plus_, _less_, signed32}
 use Rattle.rules.specs.declared.facts.Facts.{Facts}
 use Rattle.rules.specs.declared.state.State.{State}
 use Rattle.rules.specs.declared.state.TimerName.{TimerName}
-use Rattle.rules.specs.declared.state.TimerName.the-variants.{Cntp, Cntv, Cnthp, Cnthv, Cnthps, Cnthvs}
 use Rattle.rules.specs.Counts.{offsetSeen, countOf, usedCount}
-use Rattle.claims.specs.ReadBack.{low32, ReadsLow, TimerReadsBack, TvalReadsBack, HasTval, ofCntp, ofCntv, ofCnthp, ofCnthvs, ReadFollowsWrite}
+use Rattle.claims.specs.ReadBack.{low32, ReadsLow, TimerReadsBack, TvalReadsBack, HasTval, ReadFollowsWrite}
 
 takes-off : (used x : ℕ) → used < 2 ^ 64 → x < 2 ^ 64 → (used plus x) less used ≡ x
 takes-off used x h k = omega arith
@@ -59,22 +59,22 @@ either-fits false x y h k = k
 
 count-fits : (applies : Bool) (s : State) (count : ℕ) (t : TimerName) → count < 2 ^ 64 → countOf applies s count t < 2 ^ 64
 unfolding countOf
-count-fits applies s count Cntp h = either-fits applies (count less s .cntpoff) count (less-fits count (s .cntpoff)) h
-count-fits applies s count Cntv h = less-fits count (s .cntvoff)
-count-fits applies s count Cnthp h = h
-count-fits applies s count Cnthv h = h
-count-fits applies s count Cnthps h = h
-count-fits applies s count Cnthvs h = h
+count-fits applies s count TimerName.Cntp h = either-fits applies (count less s .cntpoff) count (less-fits count (s .cntpoff)) h
+count-fits applies s count TimerName.Cntv h = less-fits count (s .cntvoff)
+count-fits applies s count TimerName.Cnthp h = h
+count-fits applies s count TimerName.Cnthv h = h
+count-fits applies s count TimerName.Cnthps h = h
+count-fits applies s count TimerName.Cnthvs h = h
 
 -- it does not look at the timers
 count-of-other-timers : (applies : Bool) (s : State) (ts : Timers) (count : ℕ) (t : TimerName) → countOf applies (withTimers s ts) count t ≡ countOf applies s count t
 unfolding countOf
-count-of-other-timers applies s ts count Cntp = refl
-count-of-other-timers applies s ts count Cntv = refl
-count-of-other-timers applies s ts count Cnthp = refl
-count-of-other-timers applies s ts count Cnthv = refl
-count-of-other-timers applies s ts count Cnthps = refl
-count-of-other-timers applies s ts count Cnthvs = refl
+count-of-other-timers applies s ts count TimerName.Cntp = refl
+count-of-other-timers applies s ts count TimerName.Cntv = refl
+count-of-other-timers applies s ts count TimerName.Cnthp = refl
+count-of-other-timers applies s ts count TimerName.Cnthv = refl
+count-of-other-timers applies s ts count TimerName.Cnthps = refl
+count-of-other-timers applies s ts count TimerName.Cnthvs = refl
 
 -- ---- the two accesses
 
@@ -124,20 +124,36 @@ TvalAlone ToEl1 = Unit {0}
 TvalAlone ToEl2 = Unit {0}
 TvalAlone (Reaches target) = (t : TimerName) × (target ≡ Target.Timer t Tval)
 
-tval-alone : (f : Facts) (name : Name) → HasTval name → (mrs : Bool) → TvalAlone (verdictOf f name mrs)
-unfolding verdictOf
-tval-alone f name ofCntp mrs = cntp-holds TvalAlone Tval tt tt tt (λ t. (t, refl)) f
-tval-alone f name ofCntv mrs = cntv-holds TvalAlone Tval tt tt tt (λ t. (t, refl)) f
-tval-alone f name ofCnthp mrs = cnthp-holds TvalAlone Tval tt tt tt (λ t. (t, refl)) f
-tval-alone f name ofCnthvs mrs = cnthvs-holds TvalAlone Tval tt tt tt (λ t. (t, refl)) f
+-- a law of TVAL registers is one for each family of timers that has a name
+tval-names : (P : Name → Type 0) → P (Name.Cntp Tval) → P (Name.Cntv Tval) → P (Name.Cnthp Tval) → P (Name.Cnthvs Tval) → (name : Name) → HasTval name → P name
+tval-names P p v hp hvs Cntpct h = absurd h
+tval-names P p v hp hvs Cntvct h = absurd h
+tval-names P p v hp hvs Cntpctss h = absurd h
+tval-names P p v hp hvs Cntvctss h = absurd h
+tval-names P p v hp hvs (Cntp Tval) h = p
+tval-names P p v hp hvs (Cntp Ctl) h = absurd h
+tval-names P p v hp hvs (Cntp Cval) h = absurd h
+tval-names P p v hp hvs (Cntv Tval) h = v
+tval-names P p v hp hvs (Cntv Ctl) h = absurd h
+tval-names P p v hp hvs (Cntv Cval) h = absurd h
+tval-names P p v hp hvs Cntvoff h = absurd h
+tval-names P p v hp hvs (Cnthp Tval) h = hp
+tval-names P p v hp hvs (Cnthp Ctl) h = absurd h
+tval-names P p v hp hvs (Cnthp Cval) h = absurd h
+tval-names P p v hp hvs (Cnthvs Tval) h = hvs
+tval-names P p v hp hvs (Cnthvs Ctl) h = absurd h
+tval-names P p v hp hvs (Cnthvs Cval) h = absurd h
 
--- its gate asks the same of a read and of a write
-either-direction : (f : Facts) (name : Name) → HasTval name → (b c : Bool) → verdictOf f name b ≡ verdictOf f name c
-unfolding verdictOf
-either-direction f name ofCntp b c = refl
-either-direction f name ofCntv b c = refl
-either-direction f name ofCnthp b c = refl
-either-direction f name ofCnthvs b c = refl
+module _ (f : Facts) (name : Name) (has : HasTval name) where
+  tval-alone : (mrs : Bool) → TvalAlone (verdictOf f name mrs)
+  unfolding verdictOf
+  tval-alone mrs =
+      tval-names (λ n. TvalAlone (verdictOf f n mrs)) (cntp-holds TvalAlone Tval tt tt tt (λ t. (t, refl)) f) (cntv-holds TvalAlone Tval tt tt tt (λ t. (t, refl)) f) (cnthp-holds TvalAlone Tval tt tt tt (λ t. (t, refl)) f) (cnthvs-holds TvalAlone Tval tt tt tt (λ t. (t, refl)) f) name has
+
+  -- its gate asks the same of a read and of a write
+  either-direction : (b c : Bool) → verdictOf f name b ≡ verdictOf f name c
+  unfolding verdictOf
+  either-direction b c = tval-names (λ n. verdictOf f n b ≡ verdictOf f n c) refl refl refl refl name has
 
 -- a write that reached a timer leaves features and controls, and so the context and the gates, as they were
 stays-permitted : (level count : ℕ) (t : TimerName) (s : State) (x : ℕ) (read : ℕ) (name : Name) → nameOf read ≡ Lookup.Named name → impossibleAt s level ≡ false → verdictOf (factsOf s level) name (isMrs read) ≡ Reaches (Target.Timer t Tval) → Permitted (written level count t s x) read level (Target.Timer t Tval)
@@ -145,7 +161,7 @@ unfolding factsOf impossible impossibleAt
 stays-permitted level count t s x read name n i v = record { name = name; named = n; possible = i; verdict = v }
 
 pub read-follows-write : ReadFollowsWrite
-read-follows-write s write read level operand count name has n m msr target p =
+read-follows-write s write read level operand count name target has n m msr p =
     let f : Facts = factsOf s level in
     let named : p .name ≡ name = cc in
     let verdict : verdictOf f name (isMrs write) ≡ Reaches target = rw named at (p .verdict) in

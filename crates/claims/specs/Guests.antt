@@ -76,7 +76,11 @@ pub record SequencesAlike (desk : Desk) (s t : State) (as₁ as₂ : List Access
 -- demand 3
 abbrev pub Demand3 : Desk → Type 0
 Demand3 desk =
-    (s t : State) (as₁ as₂ : List Access) → TrappedGuest s → Alike s t → AllShown s t as₁ as₂ → SequencesAlike desk s t as₁ as₂
+    (s t : State) (as₁ as₂ : List Access) →
+    TrappedGuest s →
+    Alike s t →
+    AllShown s t as₁ as₂ →
+    SequencesAlike desk s t as₁ as₂
 
 -- the claim, over the rule tables: one access and any sequence
 pub record GuestClaim : Type 0 where

@@ -33,6 +33,19 @@ pub record RunsAlike (s t : State) (journal other : List ℕ) (n : ℕ) : Type 0
 -- the claim, for any number of records; and for two runs of journals of one length into buffers of one length, which are
 -- both refused by one number or both serve as many records
 pub record JournalClaim : Type 0 where
-  pub records : (s t : State) (journal other : List ℕ) (n : ℕ) → TrappedGuest s → Alike s t → JournalsShown s t journal other n → RunsAlike s t journal other n
-  pub number : (journal other answers buffer : List ℕ) → length journal ≡ length other → length answers ≡ length buffer → runNumber journal answers ≡ runNumber other buffer
-  pub served : (journal other answers buffer : List ℕ) → length journal ≡ length other → length answers ≡ length buffer → turns journal answers ≡ turns other buffer
+  pub records :
+      (s t : State) (journal other : List ℕ) (n : ℕ) →
+      TrappedGuest s →
+      Alike s t →
+      JournalsShown s t journal other n →
+      RunsAlike s t journal other n
+  pub number :
+      (journal other answers buffer : List ℕ) →
+      length journal ≡ length other →
+      length answers ≡ length buffer →
+      runNumber journal answers ≡ runNumber other buffer
+  pub served :
+      (journal other answers buffer : List ℕ) →
+      length journal ≡ length other →
+      length answers ≡ length buffer →
+      turns journal answers ≡ turns other buffer

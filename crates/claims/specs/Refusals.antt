@@ -10,7 +10,9 @@ use Rattle.rules.specs.Access.{accessOf}
 -- an answer other than 0 leaves the state as it was
 abbrev pub RefusalsMoveNothing : Type 0
 RefusalsMoveNothing =
-    (s : State) (word level operand count : ℕ) → (accessOf s word level operand count .answer .number ≡ done → ⊥) → accessOf s word level operand count .next ≡ s
+    (s : State) (word level operand count : ℕ) →
+    (accessOf s word level operand count .answer .number ≡ done → ⊥) →
+    accessOf s word level operand count .next ≡ s
 
 -- and so does a read
 abbrev pub ReadsMoveNothing : Type 0

@@ -39,14 +39,23 @@ pub record WritesOne (s : State) (word level operand count : ℕ) (target : Targ
 
 abbrev pub WritesChangeOne : Type 0
 WritesChangeOne =
-    (s : State) (word level operand count : ℕ) (target : Target) → isMrs word ≡ false → Permitted s word level target → WritesOne s word level operand count target
+    (s : State) (word level operand count : ℕ) (target : Target) →
+    isMrs word ≡ false →
+    Permitted s word level target →
+    WritesOne s word level operand count target
 
 -- a permitted read gives what the value rules say
 abbrev pub ReadsGive : Type 0
 ReadsGive =
-    (s : State) (word level operand count : ℕ) (target : Target) → isMrs word ≡ true → Permitted s word level target → accessOf s word level operand count .answer ≡ doneRead (rtOf word) (readOf (factsOf s level) s count target)
+    (s : State) (word level operand count : ℕ) (target : Target) →
+    isMrs word ≡ true →
+    Permitted s word level target →
+    accessOf s word level operand count .answer ≡ doneRead (rtOf word) (readOf (factsOf s level) s count target)
 
 -- and only a permitted access is answered with 0
 abbrev pub DoneIsPermitted : Type 0
 DoneIsPermitted =
-    (s : State) (word level operand count : ℕ) → accessOf s word level operand count .answer .number ≡ done → (target : Target) × Permitted s word level target
+    (s : State) (word level operand count : ℕ) →
+    accessOf s word level operand count .answer .number ≡ done →
+    (target : Target) ×
+    Permitted s word level target

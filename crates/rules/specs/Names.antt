@@ -78,7 +78,11 @@ nameTable =
 -- a word has a register's five numbers
 abbrev pub isNamedBy : Row → ℕ → Bool
 isNamedBy r word =
-    eqb (r .op0) (op0Of word) && eqb (r .op1) (op1Of word) && eqb (r .crn) (crnOf word) && eqb (r .crm) (crmOf word) && eqb (r .op2) (op2Of word)
+    eqb (r .op0) (op0Of word)
+    && eqb (r .op1) (op1Of word)
+    && eqb (r .crn) (crnOf word)
+    && eqb (r .crm) (crmOf word)
+    && eqb (r .op2) (op2Of word)
 
 -- the first register of a table whose numbers a word has
 abbrev pub lookUp : List Row → ℕ → Lookup

@@ -25,7 +25,15 @@ packed fs = packedAfter 0 fs
 -- the eight bytes of a word
 abbrev pub bytesOf : ℕ → List ℕ
 bytesOf x =
-    bits 63 56 x ∷ bits 55 48 x ∷ bits 47 40 x ∷ bits 39 32 x ∷ bits 31 24 x ∷ bits 23 16 x ∷ bits 15 8 x ∷ bits 7 0 x ∷ []
+    bits 63 56 x
+    ∷ bits 55 48 x
+    ∷ bits 47 40 x
+    ∷ bits 39 32 x
+    ∷ bits 31 24 x
+    ∷ bits 23 16 x
+    ∷ bits 15 8 x
+    ∷ bits 7 0 x
+    ∷ []
 
 -- the bytes of words, one after the other
 abbrev pub bytesOfWords : List (List Field) → List ℕ
@@ -35,7 +43,10 @@ bytesOfWords (w ∷ ws) = bytesOf (packed w) ++ bytesOfWords ws
 -- the number that four bytes make, and the word that eight make, from a place on
 abbrev pub halfAt : List ℕ → ℕ → ℕ
 halfAt bytes at =
-    getD bytes at 0 * 2 ^ 24 + getD bytes (at + 1) 0 * 2 ^ 16 + getD bytes (at + 2) 0 * 2 ^ 8 + getD bytes (at + 3) 0
+    getD bytes at 0 * 2 ^ 24
+    + getD bytes (at + 1) 0 * 2 ^ 16
+    + getD bytes (at + 2) 0 * 2 ^ 8
+    + getD bytes (at + 3) 0
 
 abbrev pub wordAt : List ℕ → ℕ → ℕ
 wordAt bytes at = halfAt bytes at * 2 ^ 32 + halfAt bytes (at + 4)
