@@ -1,0 +1,27 @@
+// The desk over a timer state that the trap handler lends, and finds changed in place.
+ghost use mathlib.Core.Path.{_≡_};
+ghost use Rattle.rules.specs.Access.{accessOf};
+ghost use Rattle.rules.specs.Journal.{runOf, bufferAfter};
+use rules::Answer;
+use rules::State;
+
+// One access: the same answer as by value, and the state as the by-value access leaves it.
+pub fn access_in(s: &mut State, word: u32, level: u8, operand: u64, count: u64) -> Answer
+    ensures { λ r. ⌜ r ≡ accessOf (now (s .entry)) word level operand count .answer ⌝ }
+    ensures { λ _. ⌜ now (s .exit) ≡ accessOf (now (s .entry)) word level operand count .next ⌝ }
+{
+    let outcome = desk::access(*s, word, level, operand, count);
+    *s = outcome.next;
+    outcome.answer
+}
+
+// The run of a journal, likewise.
+pub fn run_in(s: &mut State, journal: &[u8], answers: &mut [u8]) -> u8
+    ensures { λ r. ⌜ r ≡ runOf (now (s .entry)) (now (journal .entry)) (now (answers .entry)) .number ⌝ }
+    ensures { λ _. ⌜ now (s .exit) ≡ runOf (now (s .entry)) (now (journal .entry)) (now (answers .entry)) .next ⌝ }
+    ensures { λ _. ⌜ now (answers .exit) ≡ bufferAfter (now (s .entry)) (now (journal .entry)) (now (answers .entry)) ⌝ }
+{
+    let ran = journal::run(*s, journal, answers);
+    *s = ran.next;
+    ran.number
+}
