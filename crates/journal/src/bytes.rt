@@ -24,7 +24,7 @@ fn read_half(bytes: &[u8], at: usize) -> u64
     b0 * 0x100_0000 + b1 * 0x1_0000 + b2 * 0x100 + b3
 }
 
-pub fn read_word(bytes: &[u8], at: usize) -> u64
+pub(crate) fn read_word(bytes: &[u8], at: usize) -> u64
     requires { ⌜ at + 8 ≤ length (now bytes) ⌝ }
     ensures { λ r. ⌜ r ≡ wordAt (now (bytes .entry)) at ⌝ }
 {
@@ -33,7 +33,7 @@ pub fn read_word(bytes: &[u8], at: usize) -> u64
     high * 0x1_0000_0000 + low
 }
 
-pub fn write_word(bytes: &mut [u8], x: u64)
+pub(crate) fn write_word(bytes: &mut [u8], x: u64)
     requires { ⌜ length (now bytes) ≡ 8 ⌝ }
     ensures { λ _. ⌜ now (bytes .exit) ≡ bytesOf x ⌝ }
 {

@@ -19,7 +19,7 @@ use rules::State;
 // A reserved bit is set.
 const RESERVED_BIT_SET: u8 = 6;
 
-pub fn read_record(journal: &[u8], at: usize) -> Record
+pub(crate) fn read_record(journal: &[u8], at: usize) -> Record
     requires { ⌜ at + recordBytes ≤ length (now journal) ⌝ }
     ensures { λ r. ⌜ r ≡ recordAt (now (journal .entry)) at ⌝ }
 {
@@ -73,7 +73,7 @@ fn whole(x: u64) -> u64
     x
 }
 
-pub fn pack(bytes: &mut [u8], a: Answer)
+pub(crate) fn pack(bytes: &mut [u8], a: Answer)
     requires { ⌜ length (now bytes) ≡ recordBytes ⌝ }
     ensures { λ _. ⌜ now (bytes .exit) ≡ answerBytes a ⌝ }
 {
