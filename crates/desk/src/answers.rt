@@ -74,7 +74,6 @@ pub fn refused(number: u8) -> Answer
     }
 }
 
-// An answer with the state as before.
 pub fn as_before(s: State, answer: Answer) -> Outcome
     ensures { λ r. ⌜ r ≡ asBefore s answer ⌝ }
 {
