@@ -1,12 +1,22 @@
-// The desk over a timer state that the trap handler lends, and finds changed in place.
+// The library that a hypervisor links: the desk and the run over a timer state that the trap handler lends and finds changed
+// in place, and the lines question. Their names are those that C sees, so they begin with the library's.
 ghost use mathlib.Core.Path.{_≡_};
 ghost use Rattle.rules.specs.Access.{accessOf};
 ghost use Rattle.rules.specs.Journal.{runOf, bufferAfter};
+ghost use Rattle.rules.specs.Lines.{linesOf};
 use rules::Answer;
+use rules::Lines;
 use rules::State;
 
 // One access: the same answer as by value, and the state as the by-value access leaves it.
-pub fn access_in(s: &mut State, word: u32, level: u8, operand: u64, count: u64) -> Answer
+#[no_mangle]
+pub extern "C" fn elsterkabel_access_in(
+    s: &mut State,
+    word: u32,
+    level: u8,
+    operand: u64,
+    count: u64,
+) -> Answer
     ensures { λ r. ⌜ r ≡ accessOf (now (s .entry)) word level operand count .answer ⌝ }
     ensures { λ _. ⌜ now (s .exit) ≡ accessOf (now (s .entry)) word level operand count .next ⌝ }
 {
@@ -16,7 +26,8 @@ pub fn access_in(s: &mut State, word: u32, level: u8, operand: u64, count: u64) 
 }
 
 // The run of a journal, likewise.
-pub fn run_in(s: &mut State, journal: &[u8], answers: &mut [u8]) -> u8
+#[no_mangle]
+pub extern "C" fn elsterkabel_run_in(s: &mut State, journal: &[u8], answers: &mut [u8]) -> u8
     ensures { λ r. ⌜ r ≡ runOf (now (s .entry)) (now (journal .entry)) (now (answers .entry)) .number ⌝ }
     ensures { λ _. ⌜ now (s .exit) ≡ runOf (now (s .entry)) (now (journal .entry)) (now (answers .entry)) .next ⌝ }
     ensures { λ _. ⌜ now (answers .exit) ≡ bufferAfter (now (s .entry)) (now (journal .entry)) (now (answers .entry)) ⌝ }
@@ -24,4 +35,12 @@ pub fn run_in(s: &mut State, journal: &[u8], answers: &mut [u8]) -> u8
     let ran = journal::run(*s, journal, answers);
     *s = ran.next;
     ran.number
+}
+
+// Which lines are raised. It changes nothing, so the state comes by value.
+#[no_mangle]
+pub extern "C" fn elsterkabel_lines(s: State, count: u64) -> Lines
+    ensures { λ r. ⌜ r ≡ linesOf s count ⌝ }
+{
+    desk::lines(s, count)
 }

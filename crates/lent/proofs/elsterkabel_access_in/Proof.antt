@@ -1,4 +1,4 @@
--- `lent::access_in` meets its contract: a walk of its MIR, by hand. The borrow is opened, the state behind it is copied out whole and passed to `desk::access` by value; the state of the outcome is stored whole in its place, the borrow is closed at that state, and the outcome's answer is returned.
+-- `lent::elsterkabel_access_in` meets its contract: a walk of its MIR, by hand. The borrow is opened, the state behind it is copied out whole and passed to `desk::access` by value; the state of the outcome is stored whole in its place, the borrow is closed at that state, and the outcome's answer is returned.
 -- All that the proof knows of `desk::access` is that it meets its contract: the outcome is `accessOf` of what was passed. No field of a state or of an answer is named: a struct's laws say how its machine value is spelled, and what an outcome owes of its two fields is what the state stored and the answer returned owe.
 -- Assumes nothing.
 use mathlib.Core.Path.{_≡_, refl, ap}
@@ -54,10 +54,10 @@ use Rattle.desk.proofs.access.Symbol as access-def
 use Rattle.desk.proofs.access.Symbol.{name as #desk·access}
 use Rattle.desk.proofs.access.Met as access-thm
 use Rattle.lent.proofs.Said.{says-all, both}
-use Rattle.lent.proofs.access_in.Key.{name as #lent·access-in}
-use Rattle.lent.proofs.access_in as access-in
-use Rattle.lent.proofs.access_in.Statement as stated
-use Rattle.lent.proofs.access_in.Code as code
+use Rattle.lent.proofs.elsterkabel_access_in.Key.{name as #lent·access-in}
+use Rattle.lent.proofs.elsterkabel_access_in as access-in
+use Rattle.lent.proofs.elsterkabel_access_in.Statement as stated
+use Rattle.lent.proofs.elsterkabel_access_in.Code as code
 
 abbrev stayed : Stays (access-in.ended .signature .params) (access-in.ended .kept)
 stayed = (stay-ref (0 ∷ []) tt (plain (λ _. S.the-row)), (stay-none (λ _. u32) yes, (stay-none (λ _. u8) yes, (stay-none (λ _. u64) yes, (stay-none (λ _. u64) yes, tt)))))
@@ -176,9 +176,9 @@ access-in-meets 𝓤 H A W at-mem run 𝓣 known =
     walk-meets 𝓤 H A access-in.ended stayed W (goes 𝓤 H A W at-mem run) (access-in.clauses 𝓤 H A at-mem run) (WpFn 𝓤 H (𝓣 .C) (𝓣 .Λ) code.function) (WpFn-mono 𝓤 H (W .laws) 𝓣 code.function)
     (access-in-walks 𝓤 H A W at-mem run (𝓣 .C) (𝓣 .Λ) (fmOf 𝓤 H (W .laws) 𝓣) known)
 
-pub access-in-spec : {M : Type 1} → stated.statement M
+pub elsterkabel-access-in-spec : {M : Type 1} → stated.statement M
 unfolding code.routine tablesOf
-access-in-spec 𝓤 H 𝓜 𝓖 𝓡 =
+elsterkabel-access-in-spec 𝓤 H 𝓜 𝓖 𝓡 =
     entered 𝓤 H (tripleOf 𝓤 H (𝓖 .A) access-in.signature (access-in.spec 𝓤 H (𝓖 .A) (𝓜 .mem) (𝓡 .run)))
     (tables 𝓤 H 𝓜 𝓡 code.env .C) (tables 𝓤 H 𝓜 𝓡 code.env .Λ) #lent·access-in code.function (code.unfolded 𝓤 H 𝓜 𝓡)
     (access-in-meets 𝓤 H (𝓖 .A) (givenOf 𝓤 H 𝓜 𝓖) (𝓜 .mem) (𝓡 .run) (tablesOf 𝓤 H 𝓜 (tables 𝓤 H 𝓜 𝓡 code.env))

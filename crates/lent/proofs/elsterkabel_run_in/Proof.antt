@@ -1,4 +1,4 @@
--- `lent::run_in` meets its contract: a walk of its MIR, by hand. The borrow of the state is opened, and the state behind it is copied out whole and passed to `journal::run` by value, with the journal and with the answers' buffer, which the body doesn't need again; the state of the run is stored whole in its place, the borrow is closed at that state, and the run's number is returned.
+-- `lent::elsterkabel_run_in` meets its contract: a walk of its MIR, by hand. The borrow of the state is opened, and the state behind it is copied out whole and passed to `journal::run` by value, with the journal and with the answers' buffer, which the body doesn't need again; the state of the run is stored whole in its place, the borrow is closed at that state, and the run's number is returned.
 -- All that the proof knows of `journal::run` is that it meets its contract: the run is `runOf` of what was passed, and the buffer's last list is `bufferAfter`. No field of a state is named: a struct's laws say how its machine value is spelled, and what a run owes of its two fields is what the state stored and the number returned owe.
 -- Assumes nothing.
 use mathlib.Core.Path.{_≡_, refl, ap}
@@ -53,10 +53,10 @@ use Rattle.journal.proofs.run.Symbol as run-all-def
 use Rattle.journal.proofs.run.Symbol.{name as #journal·run}
 use Rattle.journal.proofs.run.Met as run-all-thm
 use Rattle.lent.proofs.Said.{says-all, both}
-use Rattle.lent.proofs.run_in.Key.{name as #lent·run-in}
-use Rattle.lent.proofs.run_in as run-in
-use Rattle.lent.proofs.run_in.Statement as stated
-use Rattle.lent.proofs.run_in.Code as code
+use Rattle.lent.proofs.elsterkabel_run_in.Key.{name as #lent·run-in}
+use Rattle.lent.proofs.elsterkabel_run_in as run-in
+use Rattle.lent.proofs.elsterkabel_run_in.Statement as stated
+use Rattle.lent.proofs.elsterkabel_run_in.Code as code
 
 -- at exit the state's borrow is still owned, the journal is let go, and the answers' buffer was given to `run` for good
 abbrev stayed : Stays (run-in.ended .signature .params) (run-in.ended .kept)
@@ -183,9 +183,9 @@ run-in-meets 𝓤 H A W at-mem run 𝓣 known =
     walk-meets 𝓤 H A run-in.ended stayed W (goes 𝓤 H A W at-mem run) (run-in.clauses 𝓤 H A at-mem run) (WpFn 𝓤 H (𝓣 .C) (𝓣 .Λ) code.function) (WpFn-mono 𝓤 H (W .laws) 𝓣 code.function)
     (run-in-walks 𝓤 H A W at-mem run (𝓣 .C) (𝓣 .Λ) (fmOf 𝓤 H (W .laws) 𝓣) known)
 
-pub run-in-spec : {M : Type 1} → stated.statement M
+pub elsterkabel-run-in-spec : {M : Type 1} → stated.statement M
 unfolding code.routine tablesOf
-run-in-spec 𝓤 H 𝓜 𝓖 𝓡 =
+elsterkabel-run-in-spec 𝓤 H 𝓜 𝓖 𝓡 =
     entered 𝓤 H (tripleOf 𝓤 H (𝓖 .A) run-in.signature (run-in.spec 𝓤 H (𝓖 .A) (𝓜 .mem) (𝓡 .run)))
     (tables 𝓤 H 𝓜 𝓡 code.env .C) (tables 𝓤 H 𝓜 𝓡 code.env .Λ) #lent·run-in code.function (code.unfolded 𝓤 H 𝓜 𝓡)
     (run-in-meets 𝓤 H (𝓖 .A) (givenOf 𝓤 H 𝓜 𝓖) (𝓜 .mem) (𝓡 .run) (tablesOf 𝓤 H 𝓜 (tables 𝓤 H 𝓜 𝓡 code.env))

@@ -1,0 +1,115 @@
+/*
+ * Elsterkabel: the answer desk for the Arm Generic Timer, for hypervisors in C.
+ *
+ * A trap handler lends its guest's timer state, passes on the instruction word, the exception level, the operand and the
+ * physical count, and acts on the number that it gets. Whatever the word, level, operand, count, state and journal are, there
+ * is an answer; nothing has to be checked first. What each call gives is proved (docs/PROMISES.md).
+ *
+ * What the language cannot see and C must keep to: a pointer is not null and is aligned, also where a length is 0; the memory
+ * behind it is readable, and writable where it is not const, for the whole length; no two pointers of a call overlap; no other
+ * thread touches that memory during the call; and a bool is 0 or 1.
+ *
+ * Link target/staticlib/liblent.a, which `rt staticlib lent` writes. It needs memcpy and nothing else of a C library.
+ */
+#ifndef ELSTERKABEL_H
+#define ELSTERKABEL_H
+
+#include <stdbool.h>
+#include <stddef.h>
+#include <stdint.h>
+
+#ifdef __cplusplus
+extern "C" {
+#endif
+
+/* What an answer's number means. The state is as it was unless the number is 0. */
+enum elsterkabel_number {
+    ELSTERKABEL_DONE = 0,
+    ELSTERKABEL_UNDEFINED = 1,
+    ELSTERKABEL_TRAP_TO_EL1 = 2, /* exception class 0x18 */
+    ELSTERKABEL_TRAP_TO_EL2 = 3, /* exception class 0x18 */
+    ELSTERKABEL_NOT_A_TIMER_ACCESS = 4,
+    ELSTERKABEL_IMPOSSIBLE_CONTEXT = 5,
+    ELSTERKABEL_RESERVED_BIT_SET = 6,   /* in a journal's record */
+    ELSTERKABEL_BAD_JOURNAL = 7,        /* of a whole run: ragged, or over 1,024 records */
+    ELSTERKABEL_BUFFER_TOO_SHORT = 8    /* of a whole run */
+};
+
+/* A journal's record and its answer have this many bytes; a journal has at most this many records. */
+#define ELSTERKABEL_RECORD_BYTES 24
+#define ELSTERKABEL_RECORD_LIMIT 1024
+
+struct elsterkabel_features {
+    bool vhe;
+    bool sel2;
+    bool ecv; /* and CNTPOFF_EL2 */
+};
+
+struct elsterkabel_controls {
+    bool ns;    /* SCR_EL3 */
+    bool eel2;  /* SCR_EL3 */
+    bool ecven; /* SCR_EL3 */
+    bool e2h;   /* HCR_EL2 */
+    bool tge;   /* HCR_EL2 */
+    uint32_t cntkctl;
+    uint32_t cnthctl;
+};
+
+struct elsterkabel_timer {
+    uint64_t cval;
+    bool enable;
+    bool imask;
+};
+
+struct elsterkabel_timers {
+    struct elsterkabel_timer cntp;
+    struct elsterkabel_timer cntv;
+    struct elsterkabel_timer cnthp;
+    struct elsterkabel_timer cnthv;
+    struct elsterkabel_timer cnthps;
+    struct elsterkabel_timer cnthvs;
+};
+
+/* All that the desk knows of a machine. Any value is a state; one that cannot be is answered with 5. */
+struct elsterkabel_state {
+    struct elsterkabel_features features;
+    struct elsterkabel_controls controls;
+    uint64_t cntvoff;
+    uint64_t cntpoff;
+    struct elsterkabel_timers timers;
+};
+
+struct elsterkabel_answer {
+    uint8_t number;
+    uint8_t rt;     /* the word's Rt where the number is 0 to 3, else 0 */
+    uint64_t value; /* what a read gives; unknown bits as 0 */
+    uint64_t mask;  /* the unknown bits of the value */
+};
+
+struct elsterkabel_lines {
+    uint8_t number; /* 0, or 5 with no line raised */
+    bool cntp;
+    bool cntv;
+    bool cnthp;
+    bool cnthv;
+    bool cnthps;
+    bool cnthvs;
+};
+
+/* One access: an MRS or MSR word at a level. The operand is what the register Rt holds, and counts for a write alone. */
+struct elsterkabel_answer elsterkabel_access_in(struct elsterkabel_state *state, uint32_t word, uint8_t level,
+                                                uint64_t operand, uint64_t count);
+
+/* A journal of accesses, run in order on the state; answer i is written to the 24 bytes of the buffer from 24 times i on, and
+   no other byte of it is touched. Gives 0, 7 or 8; on 7 and 8 nothing is written. */
+uint8_t elsterkabel_run_in(struct elsterkabel_state *state, const uint8_t *journal, size_t journal_length,
+                           uint8_t *answers, size_t answers_length);
+
+/* Which timer lines are raised at a physical count. */
+struct elsterkabel_lines elsterkabel_lines(struct elsterkabel_state state, uint64_t count);
+
+#ifdef __cplusplus
+}
+#endif
+
+#endif
