@@ -1,13 +1,13 @@
 /*
  * Elsterkabel: the answer desk for the Arm Generic Timer, for hypervisors in C.
  *
- * A trap handler lends its guest's timer state, passes on the instruction word, the exception level, the operand and the
- * physical count, and acts on the number that it gets. Whatever the word, level, operand, count, state and journal are, there
- * is an answer; nothing has to be checked first. What each call gives is proved (docs/PROMISES.md).
+ * A trap handler lends its guest's timer state, passes on the instruction word, the exception level, the operand and
+ * the physical count, and acts on the number that it gets. Whatever the word, level, operand, count, state and journal
+ * are, there is an answer; nothing has to be checked first. What each call gives is proved (docs/PROMISES.md).
  *
- * What the language cannot see and C must keep to: a pointer is not null and is aligned, also where a length is 0; the memory
- * behind it is readable, and writable where it is not const, for the whole length; no two pointers of a call overlap; no other
- * thread touches that memory during the call; and a bool is 0 or 1.
+ * What the language cannot see and C must keep to: a pointer is not null and is aligned, also where a length is 0; the
+ * memory behind it is readable, and writable where it is not const, for the whole length; no two pointers of a call
+ * overlap; no other thread touches that memory during the call; and a bool is 0 or 1.
  *
  * Link target/staticlib/liblent.a, which `rt staticlib lent` writes. It needs memcpy and nothing else of a C library.
  */
@@ -30,9 +30,9 @@ enum elsterkabel_number {
     ELSTERKABEL_TRAP_TO_EL2 = 3, /* exception class 0x18 */
     ELSTERKABEL_NOT_A_TIMER_ACCESS = 4,
     ELSTERKABEL_IMPOSSIBLE_CONTEXT = 5,
-    ELSTERKABEL_RESERVED_BIT_SET = 6,   /* in a journal's record */
-    ELSTERKABEL_BAD_JOURNAL = 7,        /* of a whole run: ragged, or over 1,024 records */
-    ELSTERKABEL_BUFFER_TOO_SHORT = 8    /* of a whole run */
+    ELSTERKABEL_RESERVED_BIT_SET = 6, /* in a journal's record */
+    ELSTERKABEL_BAD_JOURNAL = 7, /* of a whole run: ragged, or over 1,024 records */
+    ELSTERKABEL_BUFFER_TOO_SHORT = 8 /* of a whole run */
 };
 
 /* A journal's record and its answer have this many bytes; a journal has at most this many records. */
@@ -46,11 +46,11 @@ struct elsterkabel_features {
 };
 
 struct elsterkabel_controls {
-    bool ns;    /* SCR_EL3 */
-    bool eel2;  /* SCR_EL3 */
+    bool ns; /* SCR_EL3 */
+    bool eel2; /* SCR_EL3 */
     bool ecven; /* SCR_EL3 */
-    bool e2h;   /* HCR_EL2 */
-    bool tge;   /* HCR_EL2 */
+    bool e2h; /* HCR_EL2 */
+    bool tge; /* HCR_EL2 */
     uint32_t cntkctl;
     uint32_t cnthctl;
 };
@@ -81,9 +81,9 @@ struct elsterkabel_state {
 
 struct elsterkabel_answer {
     uint8_t number;
-    uint8_t rt;     /* the word's Rt where the number is 0 to 3, else 0 */
+    uint8_t rt; /* the word's Rt where the number is 0 to 3, else 0 */
     uint64_t value; /* what a read gives; unknown bits as 0 */
-    uint64_t mask;  /* the unknown bits of the value */
+    uint64_t mask; /* the unknown bits of the value */
 };
 
 struct elsterkabel_lines {
@@ -96,12 +96,12 @@ struct elsterkabel_lines {
     bool cnthvs;
 };
 
-/* One access: an MRS or MSR word at a level. The operand is what the register Rt holds, and counts for a write alone. */
+/* One access: an MRS or MSR word at a level. The operand is what register Rt holds, and counts for a write alone. */
 struct elsterkabel_answer elsterkabel_access_in(struct elsterkabel_state *state, uint32_t word, uint8_t level,
                                                 uint64_t operand, uint64_t count);
 
-/* A journal of accesses, run in order on the state; answer i is written to the 24 bytes of the buffer from 24 times i on, and
-   no other byte of it is touched. Gives 0, 7 or 8; on 7 and 8 nothing is written. */
+/* A journal of accesses, run in order on the state; answer i is written to the 24 bytes of the buffer from 24 times i
+   on, and no other byte of it is touched. Gives 0, 7 or 8; on 7 and 8 nothing is written. */
 uint8_t elsterkabel_run_in(struct elsterkabel_state *state, const uint8_t *journal, size_t journal_length,
                            uint8_t *answers, size_t answers_length);
 

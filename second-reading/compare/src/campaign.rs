@@ -1,4 +1,4 @@
-//! Many cases in a row, run against the program and kept.
+//! Many cases in a row, run against a program and kept.
 
 use std::collections::HashSet;
 use std::num::NonZero;
@@ -8,7 +8,7 @@ use std::thread;
 use reading::{Slip, Tally};
 
 use crate::case::{Case, Kind};
-use crate::difference::explain;
+use crate::difference::{explain, Output};
 use crate::expected::expected;
 use crate::program::{Program, Ran};
 
@@ -26,6 +26,7 @@ pub struct Captured {
 #[derive(Debug)]
 pub struct Campaign {
     pub captured: Vec<Captured>,
+    seed: u64,
 }
 
 impl Captured {
@@ -37,16 +38,16 @@ impl Captured {
         Ok(Captured { case, ran })
     }
 
-    /// How the output differs from the expected one, in words. A program that was struck down
+    /// How the output differs from the expected one, in words. A program that did not end well
     /// differs whatever it wrote.
-    fn difference(&self, expected: &[u8]) -> Option<String> {
-        let told = explain(&self.case, expected, &self.ran.output);
-        if told.is_none() && self.ran.status.code().is_some() {
+    fn difference(&self, expected: Output) -> Option<String> {
+        let told = explain(&self.case, expected, self.ran.by_program());
+        if told.is_none() && self.ran.status.success() {
             return None;
         }
         let head = || format!("case {:#018X} ended badly:\n", self.case.seed);
-        let errors = self.ran.errors.trim();
-        Some(told.unwrap_or_else(head) + &format!("  probe: {}. {errors}\n", self.ran.status))
+        let (by, status, errors) = (&self.ran.by, self.ran.status, self.ran.errors.trim());
+        Some(told.unwrap_or_else(head) + &format!("  {by}: {status}. {errors}\n"))
     }
 }
 
@@ -66,7 +67,7 @@ impl Campaign {
         });
         let mut captured: Vec<Captured> = parts?.into_iter().flatten().collect();
         captured.sort_by_key(|captured| captured.case.seed.wrapping_sub(seed));
-        Ok(Campaign { captured })
+        Ok(Campaign { captured, seed })
     }
 
     /// Captures one case after the other, each the next that no worker has taken.
@@ -93,17 +94,21 @@ impl Campaign {
         let mut told = Vec::new();
         for captured in &self.captured {
             let expected = expected(&captured.case, Slip::None);
-            told.extend(captured.difference(&expected.output));
+            told.extend(captured.difference(expected.by_reading()));
             tally.add(&expected.tally);
             answered += expected.answered;
         }
-        match told.len() {
-            0 => Ok((tally, answered)),
-            differing => {
-                told.truncate(TOLD);
-                Err(format!("{differing} cases differ\n{}", told.concat()))
-            }
-        }
+        all_agree(told)?;
+        Ok((tally, answered))
+    }
+
+    /// Gives the same cases to another program, which has to write the same; else the
+    /// differences in words.
+    pub fn compare_with(&self, other: &Program) -> Result<(), String> {
+        let theirs = Campaign::run(other, self.seed, self.captured.len() as u64)?;
+        let pairs = self.captured.iter().zip(&theirs.captured);
+        let told = pairs.filter_map(|(our, their)| their.difference(our.ran.by_program()));
+        all_agree(told.collect())
     }
 
     /// How many different start states the program was given.
@@ -121,5 +126,15 @@ impl Campaign {
         self.captured
             .iter()
             .position(|captured| expected(&captured.case, slip).output != captured.ran.output)
+    }
+}
+
+fn all_agree(mut told: Vec<String>) -> Result<(), String> {
+    match told.len() {
+        0 => Ok(()),
+        differing => {
+            told.truncate(TOLD);
+            Err(format!("{differing} cases differ\n{}", told.concat()))
+        }
     }
 }

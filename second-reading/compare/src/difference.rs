@@ -8,19 +8,28 @@ use crate::case::Case;
 /// How many differing records are told of.
 const TOLD: usize = 5;
 
+/// Bytes written for a case, and the name of what wrote them.
+#[derive(Clone, Copy, Debug)]
+pub struct Output<'a> {
+    pub by: &'a str,
+    pub bytes: &'a [u8],
+}
+
 /// The parts of an output: answers, final state image, number and lines.
-struct Output<'a> {
+struct Parts<'a> {
+    by: &'a str,
     answers: &'a [[u8; RECORD_BYTES]],
     image: &'a [u8; IMAGE_BYTES],
     lines: Lines,
 }
 
-impl Output<'_> {
-    fn of(bytes: &[u8]) -> Option<Output<'_>> {
-        let (rest, &[number, raised]) = bytes.split_last_chunk::<2>()?;
+impl<'a> Parts<'a> {
+    fn of(output: Output<'a>) -> Option<Parts<'a>> {
+        let (rest, &[number, raised]) = output.bytes.split_last_chunk::<2>()?;
         let (answers, image) = rest.split_last_chunk::<IMAGE_BYTES>()?;
         match answers.as_chunks() {
-            (answers, []) => Some(Output {
+            (answers, []) => Some(Parts {
+                by: output.by,
                 answers,
                 image,
                 lines: Lines { number, raised },
@@ -31,43 +40,44 @@ impl Output<'_> {
 }
 
 /// What differs, or nothing if the two outputs are the same bytes.
-pub fn explain(case: &Case, expected: &[u8], found: &[u8]) -> Option<String> {
-    if expected == found {
+pub fn explain(case: &Case, expected: Output, found: Output) -> Option<String> {
+    if expected.bytes == found.bytes {
         return None;
     }
     let mut told = format!("case {:#018X} ({:?}) differs:\n", case.seed, case.kind);
-    match (Output::of(expected), Output::of(found)) {
+    match (Parts::of(expected), Parts::of(found)) {
         (Some(expected), Some(found)) if expected.answers.len() == found.answers.len() => {
-            told += &answers(case, expected.answers, found.answers);
-            told += &states(expected.image, found.image);
-            told += &lines(expected.lines, found.lines);
+            told += &answers(case, &expected, &found);
+            told += &states(&expected, &found);
+            told += &lines(&expected, &found);
         }
         _ => {
             told += &format!(
-                "  probe wrote {} bytes where {} were expected\n",
-                found.len(),
-                expected.len()
+                "  {} wrote {} bytes where {} were expected\n",
+                found.by,
+                found.bytes.len(),
+                expected.bytes.len()
             );
         }
     }
     Some(told)
 }
 
-fn answers(case: &Case, expected: &[[u8; RECORD_BYTES]], found: &[[u8; RECORD_BYTES]]) -> String {
+fn answers(case: &Case, expected: &Parts, found: &Parts) -> String {
     let records = case.records();
-    let differing: Vec<usize> = (0..expected.len())
-        .filter(|&place| expected[place] != found[place])
+    let differing: Vec<usize> = (0..expected.answers.len())
+        .filter(|&place| expected.answers[place] != found.answers[place])
         .collect();
+    let width = 1 + expected.by.len().max(found.by.len());
     let mut told = String::new();
     for &place in differing.iter().take(TOLD) {
         let record = &records[place];
-        let answer = |bytes| words::answer(&Answer::unpack(bytes), record.access.word);
-        told += &format!(
-            "  record {place}: {}\n    second reading: {}\n    probe:          {}\n",
-            words::record(record),
-            answer(&expected[place]),
-            answer(&found[place]),
-        );
+        told += &format!("  record {place}: {}\n", words::record(record));
+        for parts in [expected, found] {
+            let answer = Answer::unpack(&parts.answers[place]);
+            let answer = words::answer(&answer, record.access.word);
+            told += &format!("    {:<width$} {answer}\n", format!("{}:", parts.by));
+        }
     }
     if differing.len() > TOLD {
         told += &format!("  and {} more records\n", differing.len() - TOLD);
@@ -75,37 +85,36 @@ fn answers(case: &Case, expected: &[[u8; RECORD_BYTES]], found: &[[u8; RECORD_BY
     told
 }
 
-fn states(expected: &[u8; IMAGE_BYTES], found: &[u8; IMAGE_BYTES]) -> String {
-    if expected == found {
+fn states(expected: &Parts, found: &Parts) -> String {
+    if expected.image == found.image {
         return String::new();
     }
-    match (State::from_image(expected), State::from_image(found)) {
-        (Ok(expected), Ok(found)) => fields(&expected, &found),
-        (_, Err(error)) => format!("  final state: probe wrote no image, {error}\n"),
-        (Err(error), _) => format!("  final state: no image was expected, {error}\n"),
+    let by = (expected.by, found.by);
+    let states = [expected, found].map(|parts| State::from_image(parts.image));
+    match states {
+        [Ok(expected), Ok(found)] => fields(by, &expected, &found),
+        [_, Err(error)] => format!("  final state: {} wrote no image, {error}\n", by.1),
+        [Err(error), _] => format!("  final state: no image was expected, {error}\n"),
     }
 }
 
-fn fields(expected: &State, found: &State) -> String {
+fn fields(by: (&str, &str), expected: &State, found: &State) -> String {
     words::state(expected)
         .iter()
         .zip(words::state(found))
         .filter(|((_, expected), (_, found))| expected != found)
         .map(|((name, expected), (_, found))| {
-            format!("  final {name}: second reading {expected}; probe {found}\n")
+            format!("  final {name}: {} {expected}; {} {found}\n", by.0, by.1)
         })
         .collect()
 }
 
-fn lines(expected: Lines, found: Lines) -> String {
-    if expected == found {
+fn lines(expected: &Parts, found: &Parts) -> String {
+    if expected.lines == found.lines {
         return String::new();
     }
-    format!(
-        "  lines: second reading {}; probe {}\n",
-        words::lines(&expected),
-        words::lines(&found)
-    )
+    let [wants, has] = [expected, found].map(|parts| words::lines(&parts.lines));
+    format!("  lines: {} {wants}; {} {has}\n", expected.by, found.by)
 }
 
 #[cfg(test)]
@@ -116,19 +125,25 @@ mod tests {
 
     const ORDINARY: u64 = 7;
 
+    fn by_probe(bytes: &[u8]) -> Output<'_> {
+        Output { by: "probe", bytes }
+    }
+
     fn with_byte_changed(place: impl Fn(usize) -> usize) -> String {
         let case = Case::of(ORDINARY);
-        let expected = expected(&case, Slip::None).output;
-        let mut found = expected.clone();
-        found[place(expected.len())] ^= 1;
-        explain(&case, &expected, &found).expect("a changed byte is a difference")
+        let expected = expected(&case, Slip::None);
+        let mut found = expected.output.clone();
+        found[place(expected.output.len())] ^= 1;
+        explain(&case, expected.by_reading(), by_probe(&found))
+            .expect("a changed byte is a difference")
     }
 
     #[test]
     fn the_same_bytes_do_not_differ() {
         let case = Case::of(ORDINARY);
-        let bytes = expected(&case, Slip::None).output;
-        assert_eq!(explain(&case, &bytes, &bytes), None);
+        let expected = expected(&case, Slip::None);
+        let found = by_probe(&expected.output);
+        assert_eq!(explain(&case, expected.by_reading(), found), None);
     }
 
     #[test]
@@ -137,7 +152,7 @@ mod tests {
         let record = &Case::of(ORDINARY).records()[3];
         assert!(told.contains("case 0x0000000000000007"));
         assert!(told.contains(&format!("record 3: {}\n", words::record(record))));
-        assert!(told.contains("second reading: ") && told.contains("probe: "));
+        assert!(told.contains("\n    second reading: ") && told.contains("\n    probe:          "));
     }
 
     #[test]
@@ -154,8 +169,9 @@ mod tests {
     #[test]
     fn another_length_is_told() {
         let case = Case::of(ORDINARY);
-        let bytes = expected(&case, Slip::None).output;
-        let told = explain(&case, &bytes, &bytes[..130]).expect("shorter");
+        let expected = expected(&case, Slip::None);
+        let shorter = by_probe(&expected.output[..130]);
+        let told = explain(&case, expected.by_reading(), shorter).expect("shorter");
         assert!(told.contains("probe wrote 130 bytes where 4930 were expected"));
     }
 }

@@ -3,6 +3,7 @@
 use reading::{Reading, Record, Slip, Tally, RECORD_BYTES};
 
 use crate::case::{Case, Kind};
+use crate::difference::Output;
 
 /// The bytes to be written, and the clauses that decided.
 #[derive(Clone, Debug, Default)]
@@ -11,6 +12,16 @@ pub struct Expected {
     pub tally: Tally,
     /// How many records were answered.
     pub answered: usize,
+}
+
+impl Expected {
+    /// The bytes as the second reading's.
+    pub fn by_reading(&self) -> Output<'_> {
+        Output {
+            by: "second reading",
+            bytes: &self.output,
+        }
+    }
 }
 
 /// The answers, the final state, and the number and the lines at the last record's count.

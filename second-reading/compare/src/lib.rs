@@ -1,5 +1,6 @@
-//! The comparison of the second reading with the program `probe`: seeded cases, the running of
-//! the program, differences in words, and what the cases reached.
+//! The comparison of the second reading with the program `probe`, and of `probe` with a C program
+//! over the archive: seeded cases, the running of the programs, differences in words, and what the
+//! cases reached.
 
 mod accesses;
 mod aim;
@@ -9,6 +10,7 @@ mod coverage;
 mod dice;
 mod difference;
 mod expected;
+mod harness;
 mod numbers;
 mod program;
 mod seed;
@@ -17,7 +19,8 @@ mod states;
 pub use campaign::{Campaign, Captured};
 pub use case::{Case, Kind, KINDS};
 pub use coverage::coverage_table;
-pub use difference::explain;
+pub use difference::{explain, Output};
 pub use expected::{expected, Expected};
+pub use harness::{ended, Least};
 pub use program::{Program, Ran};
 pub use seed::{fresh_seed, parse_seed};

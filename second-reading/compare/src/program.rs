@@ -1,4 +1,4 @@
-//! The program under test: where it is, how it runs on this machine, and what it wrote.
+//! The programs under test: where they are, how they run on this machine, and what they wrote.
 
 use std::env;
 use std::ffi::OsString;
@@ -10,6 +10,8 @@ use std::sync::mpsc;
 use std::thread;
 use std::time::Duration;
 
+use crate::difference::Output;
+
 /// A program that has not ended by then never ends.
 const PATIENCE: Duration = Duration::from_secs(60);
 
@@ -17,31 +19,63 @@ const PATIENCE: Duration = Duration::from_secs(60);
 const X86_64: u16 = 62;
 const AARCH64: u16 = 183;
 
-/// A command line that runs the program.
+/// A command line that runs a program, and what the program is called.
 #[derive(Clone, Debug, PartialEq, Eq)]
 pub struct Program {
+    name: String,
     command: Vec<OsString>,
 }
 
-/// What a run of the program left.
+/// What a run of a program left.
 #[derive(Debug)]
 pub struct Ran {
+    pub by: String,
     pub output: Vec<u8>,
     pub errors: String,
     pub status: ExitStatus,
 }
 
+impl Ran {
+    /// The bytes that the program wrote.
+    pub fn by_program(&self) -> Output<'_> {
+        Output {
+            by: &self.by,
+            bytes: &self.output,
+        }
+    }
+}
+
 impl Program {
     /// `probe`, from the environment variable PROBE or else from where the build leaves it.
     pub fn probe() -> Result<Program, String> {
-        let path = match env::var_os("PROBE") {
+        Ok(Program {
+            name: "probe".to_string(),
+            command: Program::found("PROBE", "target/bin/probe")?,
+        })
+    }
+
+    /// `bench`, the C program with the archive linked in, from BENCH or from where its build
+    /// leaves it. It takes a journal in one of two ways, `run` or `access`.
+    pub fn bench(way: &str) -> Result<Program, String> {
+        let mut command = Program::found("BENCH", "target/link/bench")?;
+        command.push(way.into());
+        Ok(Program {
+            name: format!("bench {way}"),
+            command,
+        })
+    }
+
+    /// The command line for the program that an environment variable names, or else for the one
+    /// in its place in the repository.
+    fn found(variable: &str, place: &str) -> Result<Vec<OsString>, String> {
+        let path = match env::var_os(variable) {
             Some(path) => PathBuf::from(path),
-            None => repository().join("target/bin/probe"),
+            None => repository().join(place),
         };
         let path = std::path::absolute(&path).unwrap_or(path);
         let machine = machine_of(&path).map_err(|error| {
             format!(
-                "no program to compare with: {}: {error}. Build it, or name it in PROBE.",
+                "no program to compare with: {}: {error}. Build it, or name it in {variable}.",
                 path.display()
             )
         })?;
@@ -50,11 +84,9 @@ impl Program {
 
     /// The one place that decides how a program runs: as it is on a machine of its own kind,
     /// and an x86-64 program on an Arm machine under the kit's emulator.
-    fn on_this_machine(path: &Path, machine: u16, here: &str) -> Result<Program, String> {
+    fn on_this_machine(path: &Path, machine: u16, here: &str) -> Result<Vec<OsString>, String> {
         match (machine, here) {
-            (X86_64, "x86_64") | (AARCH64, "aarch64") => Ok(Program {
-                command: vec![path.into()],
-            }),
+            (X86_64, "x86_64") | (AARCH64, "aarch64") => Ok(vec![path.into()]),
             (X86_64, "aarch64") => Program::emulated(path, &kit()?),
             _ => Err(format!(
                 "{} is for ELF machine {machine}; this machine is {here} and has no emulator for it",
@@ -63,7 +95,7 @@ impl Program {
         }
     }
 
-    fn emulated(path: &Path, kit: &Path) -> Result<Program, String> {
+    fn emulated(path: &Path, kit: &Path) -> Result<Vec<OsString>, String> {
         let toolchain = kit.join("on/aarch64/toolchain");
         let library = toolchain.join("lib");
         let emulator = toolchain.join("bin/qemu-x86_64");
@@ -76,15 +108,13 @@ impl Program {
                 ));
             }
         }
-        Ok(Program {
-            command: vec![
-                emulator.into(),
-                loader.into(),
-                "--library-path".into(),
-                library.into(),
-                path.into(),
-            ],
-        })
+        Ok(vec![
+            emulator.into(),
+            loader.into(),
+            "--library-path".into(),
+            library.into(),
+            path.into(),
+        ])
     }
 
     /// Gives the program its input and waits for its output.
@@ -104,6 +134,7 @@ impl Program {
         }
         let status = child.wait().map_err(said)?;
         Ok(Ran {
+            by: self.name.clone(),
             output,
             errors,
             status,
@@ -176,11 +207,8 @@ mod tests {
     fn a_program_runs_as_it_is_on_its_own_machine() {
         let path = Path::new("/some/probe");
         for (machine, here) in [(X86_64, "x86_64"), (AARCH64, "aarch64")] {
-            let program = Program::on_this_machine(path, machine, here);
-            assert_eq!(
-                program.map(|program| program.command),
-                Ok(vec![OsString::from(path)])
-            );
+            let command = Program::on_this_machine(path, machine, here);
+            assert_eq!(command, Ok(vec![OsString::from(path)]));
         }
     }
 
@@ -190,6 +218,14 @@ mod tests {
         assert!(error.is_err_and(|error| error.contains("riscv64")));
         let error = Program::emulated(Path::new("/some/probe"), Path::new("/no/kit"));
         assert!(error.is_err_and(|error| error.contains("/no/kit/on/aarch64")));
+    }
+
+    #[test]
+    fn a_missing_program_is_named_with_its_variable() {
+        let error = Program::found("NO_SUCH_VARIABLE", "no/such/program");
+        assert!(error.is_err_and(|error| {
+            error.contains("no/such/program") && error.contains("name it in NO_SUCH_VARIABLE")
+        }));
     }
 
     #[test]

@@ -3,22 +3,18 @@
 use std::process::ExitCode;
 use std::time::Instant;
 
-use compare::{coverage_table, fresh_seed, Campaign, Program, KINDS};
+use compare::{coverage_table, ended, fresh_seed, Campaign, Least, Program, KINDS};
 use reading::Slip;
 
 const FIXED_SEED: u64 = 0x5EC0_4D12_EAD1_4600;
 const CASES: u64 = 38 * KINDS;
-const LEAST_STATES: usize = 1_000;
-const LEAST_RECORDS: usize = 200_000;
+const LEAST: Least = Least {
+    states: 1_000,
+    records: 200_000,
+};
 
 fn main() -> ExitCode {
-    match compare_all() {
-        Ok(()) => ExitCode::SUCCESS,
-        Err(report) => {
-            eprintln!("FAILED: {report}");
-            ExitCode::FAILURE
-        }
-    }
+    ended(compare_all())
 }
 
 fn compare_all() -> Result<(), String> {
@@ -37,11 +33,7 @@ fn stretch(probe: &Program, name: &str, seed: u64) -> Result<Campaign, String> {
     let seconds = begun.elapsed().as_secs_f32();
     println!("agreed on {states} start states and {records} records in {seconds:.1} s\n");
     println!("how often each clause decided\n{}", coverage_table(&tally));
-    if states < LEAST_STATES || records < LEAST_RECORDS {
-        return Err(format!(
-            "too little was compared: {LEAST_STATES} states and {LEAST_RECORDS} records are due"
-        ));
-    }
+    LEAST.met_by(states, records)?;
     match tally.missing().as_slice() {
         [] => Ok(campaign),
         missing => Err(format!("clauses never met, seed {seed:#018X}: {missing:?}")),

@@ -56,14 +56,14 @@ fn again(seed: &str, folder: Option<&Path>) -> Result<Option<String>, String> {
         "case {:#018X} ({:?}), {records} records",
         case.seed, case.kind
     );
-    let expected = expected(&case, Slip::None).output;
+    let expected = expected(&case, Slip::None);
     let ran = Program::probe()?.run(&case.input())?;
     println!("probe ended with {}; {}", ran.status, ran.errors.trim());
     if let Some(folder) = folder {
-        save(folder, &case, &expected, &ran.output)
+        save(folder, &case, &expected.output, &ran.output)
             .map_err(|error| format!("{}: {error}", folder.display()))?;
     }
-    Ok(explain(&case, &expected, &ran.output))
+    Ok(explain(&case, expected.by_reading(), ran.by_program()))
 }
 
 fn save(folder: &Path, case: &Case, expected: &[u8], found: &[u8]) -> std::io::Result<()> {

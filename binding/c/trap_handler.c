@@ -1,0 +1,99 @@
+/*
+ * A trap handler over the answer desk. A guest's access to a timer register has trapped to the hypervisor with
+ * exception class 0x18; the handler takes the word, the level, the operand register and the count, calls, and acts on
+ * the number. `main` lets a guest arm its virtual timer for 50 ticks.
+ *
+ *     rt staticlib lent
+ *     cc -Ibinding/c binding/c/trap_handler.c target/staticlib/liblent.a -o trap_handler
+ */
+#include "elsterkabel.h"
+
+#include <inttypes.h>
+#include <stdio.h>
+
+/* What a hypervisor keeps of a guest. */
+struct guest {
+    uint64_t x[31];
+    uint64_t pc;
+    struct elsterkabel_state timers;
+};
+
+/* What is left to do once the desk has answered. */
+enum todo {
+    RESUME,
+    INJECT_UNDEFINED,
+    INJECT_TRAP_TO_EL1,
+    TRAP_TO_EL2, /* for the guest's own EL2, or the hypervisor's policy where the guest has none */
+    NOT_A_TIMER, /* for another of the hypervisor's devices */
+    BROKEN_GUEST, /* the state or the level cannot be: the hypervisor's own mistake */
+};
+
+enum { XZR = 31 };
+
+/* The trapped instruction, put together again from the ISS of ESR_EL2. */
+static uint32_t word_of(uint32_t iss) {
+    uint32_t mrs = iss & 1, crm = iss >> 1 & 15, rt = iss >> 5 & 31, crn = iss >> 10 & 15;
+    uint32_t op1 = iss >> 14 & 7, op2 = iss >> 17 & 7, op0 = iss >> 20 & 3;
+    return 0xD5000000 | mrs << 21 | op0 << 19 | op1 << 16 | crn << 12 | crm << 8 | op2 << 5 | rt;
+}
+
+static enum todo handle(struct guest *guest, uint32_t iss, uint8_t level, uint64_t count) {
+    uint32_t rt = iss >> 5 & 31;
+    bool mrs = iss & 1;
+    uint64_t operand = rt == XZR ? 0 : guest->x[rt];
+    struct elsterkabel_answer answer = elsterkabel_access_in(&guest->timers, word_of(iss), level, operand, count);
+
+    switch (answer.number) {
+    case ELSTERKABEL_DONE:
+        if (mrs && rt != XZR)
+            guest->x[rt] = answer.value;
+        guest->pc += 4;
+        return RESUME;
+    case ELSTERKABEL_UNDEFINED:
+        return INJECT_UNDEFINED;
+    case ELSTERKABEL_TRAP_TO_EL1:
+        return INJECT_TRAP_TO_EL1;
+    case ELSTERKABEL_TRAP_TO_EL2:
+        return TRAP_TO_EL2;
+    case ELSTERKABEL_NOT_A_TIMER_ACCESS:
+        return NOT_A_TIMER;
+    default:
+        return BROKEN_GUEST;
+    }
+}
+
+/* The ISS of an access to a timer register: op0 is 3 and CRn is 14 in all. */
+static uint32_t iss_of(bool mrs, uint32_t op1, uint32_t crm, uint32_t op2, uint32_t rt) {
+    return 3u << 20 | op2 << 17 | op1 << 14 | 14u << 10 | rt << 5 | crm << 1 | (uint32_t)mrs;
+}
+
+static const char *line_at(const struct guest *guest, uint64_t count) {
+    return elsterkabel_lines(guest->timers, count).cntv ? "up" : "down";
+}
+
+int main(void) {
+    /* A Non-secure guest whose physical counter and timer are trapped, with its virtual count 400 behind. */
+    struct guest guest = {.timers = {.features = {.vhe = true, .sel2 = true},
+                                     .controls = {.ns = true, .cntkctl = 0x303},
+                                     .cntvoff = 400}};
+    enum { EL1 = 1 };
+
+    enum todo read_count = handle(&guest, iss_of(true, 3, 0, 2, 0), EL1, 1000);
+    printf("MRS X0, CNTVCT_EL0 at 1000: todo %d, X0 is %" PRIu64 "\n", read_count, guest.x[0]);
+
+    guest.x[1] = 50;
+    enum todo set_value = handle(&guest, iss_of(false, 3, 3, 0, 1), EL1, 1000);
+    printf("MSR CNTV_TVAL_EL0, X1 at 1000: todo %d, CVAL is %" PRIu64 "\n", set_value, guest.timers.timers.cntv.cval);
+
+    guest.x[2] = 1;
+    enum todo enable = handle(&guest, iss_of(false, 3, 3, 1, 2), EL1, 1000);
+    printf("MSR CNTV_CTL_EL0, X2 at 1000: todo %d\n", enable);
+
+    printf("the CNTV line at 1049: %s\n", line_at(&guest, 1049));
+    printf("the CNTV line at 1050: %s\n", line_at(&guest, 1050));
+
+    enum todo read_physical = handle(&guest, iss_of(true, 3, 0, 1, 3), EL1, 1050);
+    printf("MRS X3, CNTPCT_EL0 at 1050: todo %d, X3 is %" PRIu64 "\n", read_physical, guest.x[3]);
+    printf("resumed %" PRIu64 " times\n", guest.pc / 4);
+    return 0;
+}

@@ -1,0 +1,27 @@
+//! Prints how the types lie in memory, to be held against what C says of the header's. It calls
+//! nothing, so that it links on any machine.
+
+use core::mem::{align_of, offset_of, size_of};
+
+use elsterkabel::{Answer, Controls, Features, Lines, State, Timer, Timers};
+
+macro_rules! layout {
+    ($name:ident: $($field:ident),+) => {
+        let (size, align) = (size_of::<$name>(), align_of::<$name>());
+        println!("{} size {size} align {align}", stringify!($name));
+        $(
+            let at = offset_of!($name, $field);
+            println!("{}.{} at {at}", stringify!($name), stringify!($field));
+        )+
+    };
+}
+
+fn main() {
+    layout!(Features: vhe, sel2, ecv);
+    layout!(Controls: ns, eel2, ecven, e2h, tge, cntkctl, cnthctl);
+    layout!(Timer: cval, enable, imask);
+    layout!(Timers: cntp, cntv, cnthp, cnthv, cnthps, cnthvs);
+    layout!(State: features, controls, cntvoff, cntpoff, timers);
+    layout!(Answer: number, rt, value, mask);
+    layout!(Lines: number, cntp, cntv, cnthp, cnthv, cnthps, cnthvs);
+}

@@ -1,0 +1,128 @@
+//! A trap handler over the answer desk. A guest's access to a timer register has trapped to the
+//! hypervisor with exception class 0x18; the handler takes the word, the level, the operand
+//! register and the count, calls, and acts on the number. `main` lets a guest arm its virtual
+//! timer for 50 ticks.
+//!
+//!     rt staticlib lent
+//!     cd second-reading
+//!     cargo run -p elsterkabel --features link --example trap_handler
+
+use elsterkabel::{number, Controls, Features, State};
+
+/// What a hypervisor keeps of a guest. XZR, which is register 31, has no place.
+struct Guest {
+    x: [u64; 31],
+    pc: u64,
+    timers: State,
+}
+
+/// What is left to do once the desk has answered.
+#[derive(Clone, Copy)]
+enum Todo {
+    Resume,
+    InjectUndefined,
+    InjectTrapToEl1,
+    /// For the guest's own EL2, or the hypervisor's policy where the guest has none.
+    TrapToEl2,
+    /// For another of the hypervisor's devices.
+    NotATimer,
+    /// The state or the level cannot be: the hypervisor's own mistake.
+    BrokenGuest,
+}
+
+const EL1: u8 = 1;
+
+/// The trapped instruction, put together again from the ISS of ESR_EL2.
+fn word_of(iss: u32) -> u32 {
+    let (mrs, crm, rt, crn) = (iss & 1, iss >> 1 & 15, iss >> 5 & 31, iss >> 10 & 15);
+    let (op1, op2, op0) = (iss >> 14 & 7, iss >> 17 & 7, iss >> 20 & 3);
+    0xD500_0000 | mrs << 21 | op0 << 19 | op1 << 16 | crn << 12 | crm << 8 | op2 << 5 | rt
+}
+
+impl Guest {
+    /// A Non-secure guest whose physical counter and timer are trapped, with its virtual count
+    /// 400 behind.
+    fn new() -> Guest {
+        let features = Features {
+            vhe: true,
+            sel2: true,
+            ..Features::default()
+        };
+        let controls = Controls {
+            ns: true,
+            cntkctl: 0x303,
+            ..Controls::default()
+        };
+        let timers = State {
+            features,
+            controls,
+            cntvoff: 400,
+            ..State::default()
+        };
+        Guest {
+            x: [0; 31],
+            pc: 0,
+            timers,
+        }
+    }
+
+    fn handle(&mut self, iss: u32, level: u8, count: u64) -> Todo {
+        let (mrs, rt) = (iss & 1 == 1, (iss >> 5 & 31) as usize);
+        let operand = self.x.get(rt).copied().unwrap_or(0);
+        let answer = self.timers.access(word_of(iss), level, operand, count);
+        match answer.number {
+            number::DONE => self.done(mrs, rt, answer.value),
+            number::UNDEFINED => Todo::InjectUndefined,
+            number::TRAP_TO_EL1 => Todo::InjectTrapToEl1,
+            number::TRAP_TO_EL2 => Todo::TrapToEl2,
+            number::NOT_A_TIMER_ACCESS => Todo::NotATimer,
+            _ => Todo::BrokenGuest,
+        }
+    }
+
+    fn done(&mut self, mrs: bool, rt: usize, value: u64) -> Todo {
+        if let (true, Some(x)) = (mrs, self.x.get_mut(rt)) {
+            *x = value;
+        }
+        self.pc += 4;
+        Todo::Resume
+    }
+
+    fn line_at(&self, count: u64) -> &'static str {
+        if self.timers.lines(count).cntv {
+            "up"
+        } else {
+            "down"
+        }
+    }
+}
+
+/// The ISS of an access to a timer register: op0 is 3 and CRn is 14 in all.
+fn iss_of(mrs: bool, op1: u32, crm: u32, op2: u32, rt: u32) -> u32 {
+    3 << 20 | op2 << 17 | op1 << 14 | 14 << 10 | rt << 5 | crm << 1 | u32::from(mrs)
+}
+
+fn main() {
+    let mut guest = Guest::new();
+
+    let todo = guest.handle(iss_of(true, 3, 0, 2, 0), EL1, 1000) as u8;
+    let x0 = guest.x[0];
+    println!("MRS X0, CNTVCT_EL0 at 1000: todo {todo}, X0 is {x0}");
+
+    guest.x[1] = 50;
+    let todo = guest.handle(iss_of(false, 3, 3, 0, 1), EL1, 1000) as u8;
+    let cval = guest.timers.timers.cntv.cval;
+    println!("MSR CNTV_TVAL_EL0, X1 at 1000: todo {todo}, CVAL is {cval}");
+
+    guest.x[2] = 1;
+    let todo = guest.handle(iss_of(false, 3, 3, 1, 2), EL1, 1000) as u8;
+    println!("MSR CNTV_CTL_EL0, X2 at 1000: todo {todo}");
+
+    println!("the CNTV line at 1049: {}", guest.line_at(1049));
+    println!("the CNTV line at 1050: {}", guest.line_at(1050));
+
+    let todo = guest.handle(iss_of(true, 3, 0, 1, 3), EL1, 1050) as u8;
+    let x3 = guest.x[3];
+    println!("MRS X3, CNTPCT_EL0 at 1050: todo {todo}, X3 is {x3}");
+    println!("resumed {} times", guest.pc / 4);
+}
