@@ -1,18 +1,23 @@
 -- A refusal and a read leave the state as it was: of the two ways that an access ends, only a permitted one is answered
--- with 0, and only a permitted write moves anything.
+-- with 0, and only a permitted write moves anything. A record is refused with 6, which leaves the state, or is an access. A
+-- refused run is one of no turns.
 -- Assumes nothing.
 use Prim.Native.Nat.{ℕ}
 use mathlib.Core.Bool.{Bool, true, false}
+use mathlib.Core.List.{List}
 use mathlib.Core.Logic.{⊎-elim}
 use mathlib.Core.Path.{_≡_, refl, ap, _∙_}
+use lib.Dec.{eqb}
 use Rattle.rules.specs.declared.answer.Outcome.{Outcome}
 use Rattle.rules.specs.declared.facts.Facts.{Facts}
+use Rattle.rules.specs.declared.record.Record.{Record}
 use Rattle.rules.specs.declared.state.State.{State}
 use Rattle.rules.specs.declared.verdict.Target.{Target}
 use Rattle.rules.specs.Names.{isMrs}
 use Rattle.rules.specs.Answers.{done}
 use Rattle.rules.specs.Access.{permitted}
-use Rattle.claims.specs.Refusals.{RefusalsMoveNothing, ReadsMoveNothing}
+use Rattle.rules.specs.Journal.{recordServed, stateAfter, answersOf, badJournal, shortBuffer, runOf, bufferAfter}
+use Rattle.claims.specs.Refusals.{RefusalsMoveNothing, RecordRefusalsMoveNothing, RunRefusalsMoveNothing, ReadsMoveNothing}
 use Rattle.claims.proofs.Ways.{ways}
 
 module _ (f : Facts) (s : State) (word operand count : ℕ) (target : Target) where
@@ -29,6 +34,26 @@ refusals-move-nothing s word level operand count refused =
     ⊎-elim (λ w. ap (λ (o : Outcome). o .next) (w .2))
     (λ w. absurd (refused (ap (λ (o : Outcome). o .answer .number) (w .2) ∙ permitted-is-done _ _ _ _ _ _)))
     (ways s word level operand count)
+
+by-reserved : (s : State) (r : Record) (b : Bool) → eqb (r .reserved) 0 ≡ b → (recordServed s r .answer .number ≡ done → ⊥) → recordServed s r .next ≡ s
+unfolding recordServed
+by-reserved s r true e refused =
+    rw e (refusals-move-nothing s (r .word) (r .level) (r .operand) (r .count) (rw e at refused))
+by-reserved s r false e refused = rw e
+
+pub record-refusals-move-nothing : RecordRefusalsMoveNothing
+record-refusals-move-nothing s r = by-reserved s r (eqb (r .reserved) 0) refl
+
+module _ (s : State) (journal answers : List ℕ) (refused : runOf s journal answers .number ≡ done → ⊥) where
+  by-tests : (bad short : Bool) → badJournal journal ≡ bad → shortBuffer journal answers ≡ short → (runOf s journal answers .next ≡ s) × (bufferAfter s journal answers ≡ answers)
+  unfolding runOf bufferAfter stateAfter answersOf
+  by-tests true short e f = (rw e, rw e)
+  by-tests false true e f = (rw (e, f), rw (e, f))
+  by-tests false false e f = absurd (refused (rw (e, f)))
+
+pub run-refusals-move-nothing : RunRefusalsMoveNothing
+run-refusals-move-nothing s journal answers refused =
+    by-tests s journal answers refused (badJournal journal) (shortBuffer journal answers) refl refl
 
 pub reads-move-nothing : ReadsMoveNothing
 unfolding permitted
