@@ -1,21 +1,24 @@
 -- Demand 3 for a run: record by record, each alike by the claim for one access, or refused alike with 6; the machines are
--- alike again after it.
+-- alike again after it. Journals and buffers of one length make runs of one number and as many turns, and what a run leaves
+-- is what its turns leave.
 -- Assumes nothing.
 use Prim.Native.Nat.{ℕ, zero, suc, _*_, _<_}
 use mathlib.Core.Bool.{Bool, true, false, cond}
 use mathlib.Core.List.{List, _++_}
-use mathlib.Core.Path.{_≡_, refl, sym, ap, ap₂, _∙_}
+use mathlib.Core.Path.{_≡_, refl, sym, ap, ap₂, subst, _∙_}
 use native.Mathlib.Omega.{arith}
 use lib.Dec.{eqb}
-use lib.ListN.{length}
+use lib.ListN.{length, take, drop}
+use lib.Seq.{take-at}
 use Rattle.rules.specs.declared.answer.Outcome.{Outcome}
 use Rattle.rules.specs.declared.record.Record.{Record}
 use Rattle.rules.specs.declared.state.State.{State}
 use Rattle.rules.specs.Access.{accessOf}
-use Rattle.rules.specs.Journal.{recordBytes, recordAt, recordServed, answerBytes, stateAfter, answersOf, runNumber, turns}
+use Rattle.rules.specs.Journal.{recordBytes, recordAt, recordServed, answerBytes, stateAfter, answersOf, runNumber, turns, runOf, bufferAfter}
+use Rattle.rules.proofs.Journal.{answers-length}
 use Rattle.claims.specs.Desk.{Access, serve}
 use Rattle.claims.specs.Guests.{TrappedGuest, Alike, OnlyCntvMoved, OneAlike}
-use Rattle.claims.specs.Journals.{accessIn, SameRecord, JournalsShown, RunsAlike, JournalClaim}
+use Rattle.claims.specs.Journals.{accessIn, SameRecord, JournalsShown, RecordsAlike, RunsAlike, JournalClaim}
 use Rattle.claims.proofs.Guests.{stayed, moved-on, still-trapped, shown-still, alike-still, one-access}
 
 -- what one record leaves on two machines
@@ -38,12 +41,12 @@ module _ (s t : State) (g : TrappedGuest s) (e : Alike s t) where
   served-alike r q h =
       by-reserved r q h (eqb (q .reserved) 0) (ap (λ (x : ℕ). eqb x 0) (h .reserved)) refl
 
-runs-alike : (s t : State) (journal other : List ℕ) (n : ℕ) → TrappedGuest s → Alike s t → JournalsShown s t journal other n → RunsAlike s t journal other n
+records-alike : (s t : State) (journal other : List ℕ) (n : ℕ) → TrappedGuest s → Alike s t → JournalsShown s t journal other n → RecordsAlike s t journal other n
 unfolding stateAfter answersOf
-runs-alike s t journal other zero g e h =
+records-alike s t journal other zero g e h =
     record { answers = refl; cntv = e .cntv; here = stayed s; there = stayed t }
-runs-alike s t journal other (suc n) g e h =
-    let before : RunsAlike s t journal other n = runs-alike s t journal other n g e (λ i l. h i (omega arith)) in
+records-alike s t journal other (suc n) g e h =
+    let before : RecordsAlike s t journal other n = records-alike s t journal other n g e (λ i l. h i (omega arith)) in
     let m : State = stateAfter s journal n in
     let k : State = stateAfter t other n in
     let r : Record = recordAt journal (n * recordBytes) in
@@ -57,10 +60,30 @@ runs-alike s t journal other (suc n) g e h =
       there = moved-on t k _ (before .there) (step .there);
     }
 
-pub journal-claim : JournalClaim
-journal-claim =
+same-number : (journal other answers buffer : List ℕ) → length journal ≡ length other → length answers ≡ length buffer → runNumber journal answers ≡ runNumber other buffer
+same-number journal other answers buffer j a = rw (j, a)
+
+same-turns : (journal other answers buffer : List ℕ) → length journal ≡ length other → length answers ≡ length buffer → turns journal answers ≡ turns other buffer
+same-turns journal other answers buffer j a = rw (j, a)
+
+-- of a buffer after n turns the first 24 times n bytes are the answers
+answers-in-front : (s : State) (journal rest : List ℕ) (n : ℕ) → take (n * recordBytes) (answersOf s journal n ++ rest) ≡ answersOf s journal n
+answers-in-front s journal rest n = take-at (answersOf s journal n) rest (n * recordBytes) (answers-length s journal n)
+
+runs-alike : (s t : State) (journal other answers buffer : List ℕ) → TrappedGuest s → Alike s t → length journal ≡ length other → length answers ≡ length buffer → JournalsShown s t journal other (turns journal answers) → RunsAlike s t journal other answers buffer
+unfolding runOf bufferAfter
+runs-alike s t journal other answers buffer g e j a h =
+    let n : ℕ = turns journal answers in
+    let as-many : turns other buffer ≡ n = sym (same-turns journal other answers buffer j a) in
+    let all : RecordsAlike s t journal other n = records-alike s t journal other n g e h in
     record {
-      records = runs-alike;
-      number = λ journal other answers buffer j a. rw (j, a);
-      served = λ journal other answers buffer j a. rw (j, a);
+      number = same-number journal other answers buffer j a;
+      answered = rw as-many (answers-in-front s journal _ n ∙ all .answers ∙ sym (answers-in-front t other _ n));
+      whole = λ same. rw as-many (ap₂ (λ (front rest : List ℕ). front ++ drop (n * recordBytes) rest) (all .answers) same);
+      cntv = rw as-many (all .cntv);
+      here = all .here;
+      there = subst (λ (m : ℕ). OnlyCntvMoved t (stateAfter t other m)) (sym as-many) (all .there);
     }
+
+pub journal-claim : JournalClaim
+journal-claim = record { records = records-alike; number = same-number; served = same-turns; runs = runs-alike }

@@ -1,26 +1,11 @@
--- One turn of the run more: n answers are 24 times n bytes, and the next goes right behind them, in front of what was in the
--- buffer.
+-- One turn of the run more: the next answer goes right behind the others, in front of what was in the buffer.
 -- Assumes nothing.
-use Prim.Native.Nat.{ℕ, zero, suc, _+_, _*_, _≤_}
+use Prim.Native.Nat.{ℕ, _+_, _≤_}
 use mathlib.Core.List.{List, _++_, append-assoc}
-use mathlib.Core.Path.{_≡_, refl, ap, sym, _∙_}
+use mathlib.Core.Path.{_≡_, ap, sym, _∙_}
 use native.Mathlib.Omega.{arith}
 use lib.ListN.{length, take, drop, length-append, length-drop}
 use lib.Seq.{take-at, drop-append-add, drop-drop}
-use Rattle.rules.specs.declared.answer.Answer.{Answer}
-use Rattle.rules.specs.declared.state.State.{State}
-use Rattle.rules.specs.Journal.{recordBytes, recordAt, recordServed, answerBytes, stateAfter, answersOf}
-
-answer-length : (a : Answer) → length (answerBytes a) ≡ recordBytes
-unfolding answerBytes
-answer-length a = refl
-
-pub answers-length : (s : State) (journal : List ℕ) (n : ℕ) → length (answersOf s journal n) ≡ n * recordBytes
-unfolding answersOf
-answers-length s journal zero = refl
-answers-length s journal (suc n) =
-    let a : Answer = recordServed (stateAfter s journal n) (recordAt journal (n * recordBytes)) .answer in
-    length-append (answersOf s journal n) (answerBytes a) ∙ omega (arith, answers-length s journal n, answer-length a)
 
 -- the buffer with answers in front, and one more answer put behind them
 pub one-more : (front more buffer out : List ℕ) (k : ℕ) → length front ≡ k → out ≡ front ++ drop k buffer → take k out ++ (more ++ drop (k + 24) out) ≡ (front ++ more) ++ drop (k + 24) buffer

@@ -1,3 +1,4 @@
+pub mod Journal
 pub mod Readings
 pub mod Rules
 pub mod Timers

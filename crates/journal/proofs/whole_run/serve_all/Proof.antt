@@ -10,7 +10,8 @@ use borrow.Author.Needs.{needs}
 use lib.ListN.{length, take, drop}
 use Rattle.rules.specs.declared.state.State.{State}
 use Rattle.rules.specs.Journal.{recordBytes, recordAt, recordServed, answerBytes, stateAfter, answersOf}
-use Rattle.journal.proofs.Turns.{answers-length, one-more, same-length}
+use Rattle.rules.proofs.Journal.{answers-length}
+use Rattle.journal.proofs.Turns.{one-more, same-length}
 use Rattle.journal.proofs.whole_run.serve_all.Statement.{statement}
 use Rattle.journal.proofs.whole_run.serve_all.Tie as tie
 
