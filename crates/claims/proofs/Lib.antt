@@ -6,5 +6,6 @@ pub mod Journals
 pub mod OneAnswer
 pub mod ReadBack
 pub mod Refusals
+pub mod TwoMachines
 pub mod Ways
 pub mod Writes

@@ -5,5 +5,6 @@ pub mod Writes
 pub mod ReadBack
 pub mod Guests
 pub mod Journals
+pub mod TwoMachines
 pub mod OneAnswer
 pub mod Impostors
