@@ -49,7 +49,7 @@ pub record CounterTrapped (s : State) : Type 0 where
   pub counter : cnthctl s .el1pcten ≡ false
 
 -- with either half of 'physical trapped' taken away, demand 3 would be false of the rules: the guest reads the physical
--- count, or moves CNTP
+-- count, or moves CNTP; a field is named for the half that is taken away, and asks the other alone
 pub record TrappedIsNeeded : Type 0 where
   pub counter : OneAccess TimerTrapped accessOf → ⊥
   pub timer : OneAccess CounterTrapped accessOf → ⊥

@@ -7,6 +7,7 @@ infixl 65 _plus_ _less_
 abbrev pub _plus_ : ℕ → ℕ → ℕ
 a plus b = (a + b) % 2 ^ 64
 
+-- of numbers of 64 bits: b is at most 2^64, where ℕ's difference does not stop at 0
 abbrev pub _less_ : ℕ → ℕ → ℕ
 a less b = (a + 2 ^ 64 - b) % 2 ^ 64
 

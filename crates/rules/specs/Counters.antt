@@ -12,7 +12,8 @@ use Rattle.rules.specs.Cntv.{aToC}
 module _ (f : Facts) where
   open Facts f using (level, on, ecv, cntkctl, cnthctl)
 
-  -- CNTPCT at EL0: as CNTP (a) to (d) with EL0PCTEN and EL1PCTEN in place of the timer bits
+  -- CNTPCT at EL0: as CNTP (a) to (d) with EL0PCTEN and EL1PCTEN in place of the timer bits; EL1PCTEN stands for both EL1
+  -- bits, since E2H has already picked its place (Bits.cnthctlOf)
   abbrev pub cntpctEl0 : Verdict
   cntpctEl0 = first (aToD f (cntkctl .el0pcten) (cnthctl .el1pcten) (cnthctl .el1pcten) (cnthctl .el0pcten)) (Reaches Cntpct)
 
