@@ -2,10 +2,10 @@
 -- timer. Of CNTP and CNTPCT it meets (b) or (c) at EL0 and the EL1 rule at EL1; EL2's own timers need host.
 -- Assumes nothing.
 use Prim.Native.Nat.{ℕ}
-use mathlib.Core.Bool.{Bool, true, false, cond, not, _&&_, _||_, and-eq-true-iff}
+use mathlib.Core.Bool.{Bool, true, false, cond, not, _&&_, and-eq-true-iff}
 use mathlib.Core.List.{[], _∷_}
 use mathlib.Core.Logic.{_⊎_, ⊎-elim}
-use mathlib.Core.Path.{_≡_, refl, sym, ap, _∙_}
+use mathlib.Core.Path.{_≡_, refl, _∙_}
 use borrow.Author.Tests.{not-true}
 use Rattle.rules.specs.declared.facts.Facts.{Facts}
 use Rattle.rules.specs.declared.name.Name.{Name}
@@ -20,11 +20,11 @@ use Rattle.rules.specs.Words.{EL0, EL1, on, cnthctl, factsOf}
 use Rattle.rules.specs.Rules.{_⇒_, first, timer}
 use Rattle.rules.specs.Cntp.{denied, aToD, el1Rule, cntp}
 use Rattle.rules.specs.Cntv.{aToC, cntv}
-use Rattle.rules.specs.Counters.{cntpct, cntvct, selfSynchronized, readOnly}
+use Rattle.rules.specs.Counters.{cntpct, cntvct, selfSynchronized}
 use Rattle.rules.specs.El2.{cntvoff, cnthp, cnthvs}
 use Rattle.rules.specs.Verdicts.{verdictOf}
 use Rattle.rules.proofs.Rules.{cond-holds, first-holds}
-use Rattle.claims.specs.Guests.{Guest, TrappedGuest}
+use Rattle.claims.specs.Guests.{TrappedGuest}
 
 abbrev Own : TimerName → Type 0
 Own TimerName.Cntp = ⊥

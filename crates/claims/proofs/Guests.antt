@@ -27,15 +27,15 @@ use Rattle.rules.specs.declared.verdict.Verdict.the-variants.{Undefined, ToEl1,
 use Rattle.rules.specs.Words.{EL0, EL1, EL2, physicalTrapped, factsOf}
 use Rattle.rules.specs.Names.{nameOf, isMrs, rtOf, writtenOperand}
 use Rattle.rules.specs.Verdicts.{verdictOf}
-use Rattle.rules.specs.Timers.{same, get, put, withTimers}
+use Rattle.rules.specs.Timers.{put, withTimers}
 use Rattle.rules.specs.Counts.{virtual, virtualSeen, countOf}
 use Rattle.rules.specs.Values.{known, readTimer, writeTimer, readOf, writeOf}
 use Rattle.rules.specs.Answers.{trapToEl1, trapToEl2, notNamed, impossibleContext, doneRead, doneWrite, undefinedAt, trapped, refused}
 use Rattle.rules.specs.Context.{impossible, impossibleAt}
 use Rattle.rules.specs.Access.{permitted, ruled, served, accessOf}
 use Rattle.rules.proofs.Timers.{get-put-other}
-use Rattle.claims.specs.Desk.{Desk, Access, serve, answersTo, stateAfter}
-use Rattle.claims.specs.Guests.{Guest, TrappedGuest, Alike, SameShown, AllShown, OnlyCntvMoved, OneAlike, OneAccess, SequencesAlike, Demand3, GuestClaim}
+use Rattle.claims.specs.Desk.{Desk, Access, serve}
+use Rattle.claims.specs.Guests.{TrappedGuest, Alike, SameShown, AllShown, OnlyCntvMoved, OneAlike, OneAccess, SequencesAlike, Demand3, GuestClaim}
 use Rattle.claims.proofs.GuestGates.{OwnOnly, GuestFacts, guest-facts, own-only, and-false}
 
 -- ---- what the guest may know, and what it gets by it

@@ -2,8 +2,8 @@
 -- alike again after it. Journals and buffers of one length make runs of one number and as many turns, and what a run leaves
 -- is what its turns leave.
 -- Assumes nothing.
-use Prim.Native.Nat.{ℕ, zero, suc, _*_, _<_}
-use mathlib.Core.Bool.{Bool, true, false, cond}
+use Prim.Native.Nat.{ℕ, zero, suc, _*_}
+use mathlib.Core.Bool.{Bool, true, false}
 use mathlib.Core.List.{List, _++_}
 use mathlib.Core.Path.{_≡_, refl, sym, ap, ap₂, subst, _∙_}
 use native.Mathlib.Omega.{arith}
@@ -16,7 +16,6 @@ use Rattle.rules.specs.declared.state.State.{State}
 use Rattle.rules.specs.Access.{accessOf}
 use Rattle.rules.specs.Journal.{recordBytes, recordAt, recordServed, answerBytes, stateAfter, answersOf, runNumber, turns, runOf, bufferAfter}
 use Rattle.rules.proofs.Journal.{answers-length}
-use Rattle.claims.specs.Desk.{Access, serve}
 use Rattle.claims.specs.Guests.{TrappedGuest, Alike, OnlyCntvMoved, OneAlike}
 use Rattle.claims.specs.Journals.{accessIn, SameRecord, JournalsShown, RecordsAlike, RunsAlike, JournalClaim}
 use Rattle.claims.proofs.Guests.{stayed, moved-on, still-trapped, shown-still, alike-still, one-access}

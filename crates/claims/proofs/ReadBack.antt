@@ -1,7 +1,7 @@
 -- What a TVAL write took is read back. The count that the write added is the count that the read takes off, both wrapped at
 -- 64 bits; and taking 32 bits as signed does not touch the low 32.
 -- Assumes nothing.
-use Prim.Native.Nat.{ℕ, _+_, _-_, _%_, _/_, _^_, _<_}
+use Prim.Native.Nat.{ℕ, _-_, _^_, _<_}
 use mathlib.Core.Bool.{Bool, true, false, cond}
 use mathlib.Core.Path.{_≡_, refl, sym, ap, subst, subst₂, _∙_}
 use native.Mathlib.Omega.{arith}
@@ -27,7 +27,7 @@ use Rattle.rules.proofs.Timers.{get-put-same}
 use Rattle.rules.proofs.Verdicts.{cntp-holds, cntv-holds, cnthp-holds, cnthvs-holds}
 use Rattle.claims.specs.Desk.{Permitted}
 use Rattle.claims.proofs.Writes.{writes-change-one, reads-give}
-use Rattle.rules.specs.Bits.{bits, bit}
+use Rattle.rules.specs.Bits.{bit}
 use Rattle.rules.specs.Arithmetic.{_plus_, _less_, signed32}
 use Rattle.rules.specs.declared.facts.Facts.{Facts}
 use Rattle.rules.specs.declared.state.State.{State}

@@ -13,8 +13,6 @@ use Rattle.rules.specs.declared.name.Part.{Part}
 use Rattle.rules.specs.declared.name.Part.the-variants.{Tval, Ctl, Cval}
 use Rattle.rules.specs.declared.state.State.{State}
 use Rattle.rules.specs.declared.state.Timer.{Timer}
-use Rattle.rules.specs.declared.state.Timers.{Timers}
-use Rattle.rules.specs.declared.state.TimerName.{TimerName}
 use Rattle.rules.specs.declared.verdict.Target.{Target}
 use Rattle.rules.specs.declared.verdict.Verdict.{Verdict}
 use Rattle.rules.specs.declared.verdict.Verdict.the-variants.{Undefined, ToEl1, ToEl2, Reaches}
@@ -30,7 +28,7 @@ use Rattle.rules.proofs.Rules.{at-level-holds}
 use Rattle.rules.proofs.Verdicts.{cntp-holds, cntv-holds, cnthp-holds, cnthvs-holds}
 use Rattle.rules.proofs.Timers.{get-put-same}
 use Rattle.claims.specs.Desk.{Permitted}
-use Rattle.claims.specs.Writes.{OnePart, OneRegister, WritesOne, WritesChangeOne, ReadsGive, DoneIsPermitted}
+use Rattle.claims.specs.Writes.{OnePart, OneRegister, WritesChangeOne, ReadsGive, DoneIsPermitted}
 use Rattle.claims.proofs.Ways.{ways, ends}
 
 -- ---- no write reaches a counter

@@ -1,6 +1,6 @@
 -- What answers accesses, one or one after the other. The claims are of `accessOf`; the impostors are desks too.
 use Prim.Native.Nat.{ℕ}
-use mathlib.Core.Bool.{Bool, true, false}
+use mathlib.Core.Bool.{false}
 use mathlib.Core.List.{List, [], _∷_}
 use mathlib.Core.Path.{_≡_}
 use Rattle.rules.specs.declared.answer.Answer.{Answer}

@@ -1,6 +1,5 @@
 -- Demand 3: what a Non-secure guest whose physical counter and physical timer are trapped can tell, and what it can move.
 -- No nested virtualization: the model has no NV bits.
-use Prim.Native.Nat.{ℕ}
 use mathlib.Core.Bool.{true, false}
 use mathlib.Core.List.{List, [], _∷_}
 use mathlib.Core.Logic.{_⊎_}
