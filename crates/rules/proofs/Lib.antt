@@ -1,4 +1,5 @@
 pub mod Journal
+pub mod Lease
 pub mod Readings
 pub mod Rules
 pub mod Timers
