@@ -3,6 +3,8 @@ pub mod GuestGates
 pub mod Guests
 pub mod Impostors
 pub mod Journals
+pub mod Lease
+pub mod LeaseExample
 pub mod OneAnswer
 pub mod ReadBack
 pub mod Refusals

@@ -6,5 +6,7 @@ pub mod ReadBack
 pub mod Guests
 pub mod Journals
 pub mod TwoMachines
+pub mod Lease
+pub mod LeaseExample
 pub mod OneAnswer
 pub mod Impostors

@@ -1,0 +1,208 @@
+-- The lease, in the customer's words. A clerk reserves a slot for n ticks, the guest arms its virtual timer for them, and the
+-- lease ends neither early nor late: its end is the moment the timer's line is raised. Time here is the virtual count,
+-- physical less CNTVOFF.
+use Prim.Native.Nat.{ℕ, _+_, _-_, _^_, _<_, _≤_}
+use mathlib.Core.Bool.{Bool, true, false, cond}
+use mathlib.Core.List.{List, [], _∷_}
+use mathlib.Core.Logic.{_⊎_}
+use mathlib.Core.Path.{_≡_}
+use lib.Dec.{leb}
+use Rattle.rules.specs.declared.name.Part.the-variants.{Tval, Ctl}
+use Rattle.rules.specs.declared.state.State.{State}
+use Rattle.rules.specs.declared.state.TimerName.the-variants.{Cntv}
+use Rattle.rules.specs.declared.verdict.Target.{Target}
+use Rattle.rules.specs.declared.verdict.Target.the-variants.{Cntpct, Cntvct, Cntvoff, Timer}
+use Rattle.rules.specs.Bits.{bits, bit}
+use Rattle.rules.specs.Names.{isMrs, rtOf, writtenOperand}
+use Rattle.rules.specs.Arithmetic.{_plus_, _less_, signed32}
+use Rattle.rules.specs.Timers.{same, timerOf}
+use Rattle.rules.specs.Values.{known}
+use Rattle.rules.specs.Answers.{doneRead}
+use Rattle.rules.specs.Context.{impossible}
+use Rattle.rules.specs.Access.{accessOf}
+use Rattle.rules.specs.Lines.{linesOf}
+use Rattle.claims.specs.Desk.{Access, serve, stateAfter, Permitted}
+use Rattle.claims.specs.Guests.{TrappedGuest, Alike, AllShown}
+
+-- ---- words
+
+-- the virtual count at a physical count
+abbrev pub virtualAt : State → ℕ → ℕ
+virtualAt s physical = physical less s .cntvoff
+
+-- CNTV's line is raised at a physical count
+abbrev pub lineAt : State → ℕ → Bool
+lineAt s physical = linesOf s physical .cntv
+
+-- a permitted write, and a permitted read, of the register that is reached
+pub record PermittedWrite (s : State) (a : Access) (target : Target) : Type 0 where
+  pub write : isMrs (a .word) ≡ false
+  pub permitted : Permitted s (a .word) (a .level) target
+
+pub record PermittedRead (s : State) (a : Access) (target : Target) : Type 0 where
+  pub read : isMrs (a .word) ≡ true
+  pub permitted : Permitted s (a .word) (a .level) target
+
+-- what a write takes: its operand, or 0 for Rt 31
+abbrev pub taken : Access → ℕ
+taken a = writtenOperand (a .word) (a .operand)
+
+-- a lease that ends at a deadline: CNTV is on and unmasked and its CVAL is the deadline, on a machine that can be
+pub record Lease (s : State) (deadline : ℕ) : Type 0 where
+  pub possible : impossible s ≡ false
+  pub cntv : s .timers .cntv ≡ timerOf deadline true false
+
+-- ---- 1. Armed
+
+-- CTL with ENABLE 1 and IMASK 0
+abbrev pub TurnsOn : ℕ → Type 0
+TurnsOn x = (bit 0 x ≡ true) × (bit 1 x ≡ false)
+
+-- a permitted write of n, the low 32 bits as signed, to TVAL at virtual count v, and a permitted write of CTL that turns
+-- the timer on, in either order and at any levels, leave a lease that ends at v plus n
+pub record Armed : Type 0 where
+  pub valueFirst :
+      (s : State) (value control : Access) →
+      PermittedWrite s value (Timer Cntv Tval) →
+      PermittedWrite (serve accessOf s value .next) control (Timer Cntv Ctl) →
+      TurnsOn (taken control) →
+      Lease (stateAfter accessOf s (value ∷ control ∷ [])) (virtualAt s (value .count) plus signed32 (taken value))
+  pub controlFirst :
+      (s : State) (control value : Access) →
+      PermittedWrite s control (Timer Cntv Ctl) →
+      PermittedWrite (serve accessOf s control .next) value (Timer Cntv Tval) →
+      TurnsOn (taken control) →
+      Lease (stateAfter accessOf s (control ∷ value ∷ [])) (virtualAt s (value .count) plus signed32 (taken value))
+
+-- ---- 2. Not early, not late
+
+-- the line is raised, and ISTATUS reads 1, exactly if the virtual count is not below the deadline, compared unsigned
+pub record EndsAt (s : State) (deadline : ℕ) : Type 0 where
+  pub line : (physical : ℕ) → lineAt s physical ≡ leb deadline (virtualAt s physical)
+  pub status :
+      (a : Access) →
+      PermittedRead s a (Timer Cntv Ctl) →
+      serve accessOf s a .answer
+      ≡ doneRead (rtOf (a .word)) (known (1 + cond (leb deadline (virtualAt s (a .count))) (2 ^ 2) 0))
+
+abbrev pub EndsAtTheDeadline : Type 0
+EndsAtTheDeadline = (s : State) (deadline : ℕ) → Lease s deadline → EndsAt s deadline
+
+-- an operand of n ticks ahead, and of k ticks back
+pub record Ahead (x n : ℕ) : Type 0 where
+  pub low : bits 31 0 x ≡ n
+  pub small : n < 2 ^ 31
+
+pub record Back (x k : ℕ) : Type 0 where
+  pub low : bits 31 0 x ≡ 2 ^ 32 - k
+  pub some : 0 < k
+  pub small : k ≤ 2 ^ 31
+
+-- the line is down at every virtual count below `from`, and up at every one from there to the counter's end
+pub record UpFrom (s : State) (from : ℕ) : Type 0 where
+  pub down : (physical : ℕ) → virtualAt s physical < from → lineAt s physical ≡ false
+  pub up : (physical : ℕ) → from ≤ virtualAt s physical → lineAt s physical ≡ true
+
+-- the line is up at v and at every later virtual count to the counter's end
+abbrev pub UpAtOnce : State → ℕ → Type 0
+UpAtOnce s v = (physical : ℕ) → v ≤ virtualAt s physical → lineAt s physical ≡ true
+
+-- so, in plain numbers, for a lease that was taken at virtual count v
+pub record InPlainNumbers (s : State) (v x : ℕ) : Type 0 where
+  -- n ticks ahead: down until v + n, and up from there
+  pub ahead : (n : ℕ) → Ahead x n → v + n < 2 ^ 64 → UpFrom s (v + n)
+  -- k ticks back: up at once
+  pub back : (k : ℕ) → Back x k → k ≤ v → UpFrom s (v - k) × UpAtOnce s v
+  -- v + n is past the counter's end: the deadline reads as a count long past, and the lease is over at once
+  pub aheadWraps : (n : ℕ) → Ahead x n → 2 ^ 64 ≤ v + n → UpFrom s (v + n - 2 ^ 64) × UpAtOnce s v
+  -- v - k is before the counter's start: the deadline reads as a count far ahead, and the lease hangs on until there
+  pub backWraps : (k : ℕ) → Back x k → v < k → UpFrom s (v + 2 ^ 64 - k)
+
+abbrev pub NotEarlyNotLate : Type 0
+NotEarlyNotLate = (s : State) (v x : ℕ) → v < 2 ^ 64 → Lease s (v plus signed32 x) → InPlainNumbers s v x
+
+-- ---- 3. Left alone
+
+-- the registers that a lease stands on: CNTV's, and CNTVOFF
+abbrev pub OfTheLease : Target → Type 0
+OfTheLease Cntpct = ⊥
+OfTheLease Cntvct = ⊥
+OfTheLease Cntvoff = Unit {0}
+OfTheLease (Timer t p) = same t Cntv ≡ true
+
+-- of accesses one after the other, by any level and any guest, none is a permitted write that reaches one of these
+abbrev pub NoneReachesIt : State → List Access → Type 0
+NoneReachesIt s [] = Unit {0}
+NoneReachesIt s (a ∷ rest) =
+    ((target : Target) → OfTheLease target → PermittedWrite s a target → ⊥) × NoneReachesIt (serve accessOf s a .next) rest
+
+-- the same lease: its deadline stands, and at each virtual count the line is the same
+pub record SameLease (s t : State) : Type 0 where
+  pub deadline : (d : ℕ) → Lease s d → Lease t d
+  pub line : (p q : ℕ) → virtualAt s p ≡ virtualAt t q → lineAt s p ≡ lineAt t q
+
+abbrev pub LeftAlone : Type 0
+LeftAlone =
+    (s : State) (accesses : List Access) →
+    NoneReachesIt s accesses →
+    (stateAfter accessOf s accesses .cntvoff ≡ s .cntvoff) × SameLease s (stateAfter accessOf s accesses)
+
+-- ---- 4. TVAL tells the truth
+
+-- a number of 64 bits that, as signed, fits 32
+abbrev pub Fits32 : ℕ → Type 0
+Fits32 y = (y < 2 ^ 31) ⊎ ((2 ^ 64 - 2 ^ 31 ≤ y) × (y < 2 ^ 64))
+
+-- the ticks that are left at virtual count w of a lease of n taken at v: n less w plus v
+abbrev pub left : ℕ → ℕ → ℕ → ℕ
+left v x w = (v plus signed32 x) less w
+
+pub record TvalTellsTheTruth : Type 0 where
+  -- a permitted read of TVAL gives them, all bits known
+  pub reads :
+      (s : State) (v x : ℕ) (a : Access) →
+      Lease s (v plus signed32 x) →
+      PermittedRead s a (Timer Cntv Tval) →
+      serve accessOf s a .answer ≡ doneRead (rtOf (a .word)) (known (left v x (virtualAt s (a .count))))
+  -- taken as 32 signed bits they are the same number, if it fits
+  pub signed : (v x w : ℕ) → Fits32 (left v x w) → signed32 (left v x w) ≡ left v x w
+  -- in plain numbers, for n ticks ahead: v + n - w until the end, and as many ticks below 0 after it
+  pub running : (v x n w : ℕ) → Ahead x n → v + n < 2 ^ 64 → w ≤ v + n → left v x w ≡ v + n - w
+  pub over :
+      (v x n w : ℕ) → Ahead x n → v + n < w → w < 2 ^ 64 → left v x w ≡ 0 less (w - (v + n))
+
+-- ---- 5. By the guest alone
+
+-- under demand 3's premises two machines alike end the lease at the same virtual count, whatever their offsets and other
+-- timers
+abbrev pub ByTheGuestAlone : Type 0
+ByTheGuestAlone =
+    (s t : State) (as₁ as₂ : List Access) →
+    TrappedGuest s →
+    Alike s t →
+    AllShown s t as₁ as₂ →
+    SameLease (stateAfter accessOf s as₁) (stateAfter accessOf t as₂)
+
+-- ---- the claim
+
+-- the whole of it, for n ticks: the clerk's guest takes the lease, whatever is asked of the desk after that leaves it alone,
+-- and the line is down until v + n and up from there
+abbrev pub LeaseKept : Type 0
+LeaseKept =
+    (s : State) (value control : Access) (accesses : List Access) (n : ℕ) →
+    PermittedWrite s value (Timer Cntv Tval) →
+    PermittedWrite (serve accessOf s value .next) control (Timer Cntv Ctl) →
+    TurnsOn (taken control) →
+    NoneReachesIt (stateAfter accessOf s (value ∷ control ∷ [])) accesses →
+    Ahead (taken value) n →
+    virtualAt s (value .count) + n < 2 ^ 64 →
+    UpFrom (stateAfter accessOf s (value ∷ control ∷ accesses)) (virtualAt s (value .count) + n)
+
+pub record LeaseClaim : Type 0 where
+  pub kept : LeaseKept
+  pub armed : Armed
+  pub endsAtTheDeadline : EndsAtTheDeadline
+  pub notEarlyNotLate : NotEarlyNotLate
+  pub leftAlone : LeftAlone
+  pub tvalTellsTheTruth : TvalTellsTheTruth
+  pub byTheGuestAlone : ByTheGuestAlone
