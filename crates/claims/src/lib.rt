@@ -1,2 +1,2 @@
-// What the rulebook comes to: the customer's demands 2 and 3, as theorems over the definitions that the code is proved to
-// equal. specs/ states them, proofs/ proves them; there is no code here.
+// What the rulebook comes to: the customer's demands, and the lease that they are for, as theorems over the definitions that
+// the code is proved to equal. specs/ states them, proofs/ proves them; there is no code here.
