@@ -130,7 +130,7 @@ module _ (s : State) (g : TrappedGuest s) (a : Access) (low : (a .level ≡ EL0)
 -- ---- two machines
 
 -- a state of which only features and controls matter
-abbrev machine : Features → Controls → State → State
+abbrev pub machine : Features → Controls → State → State
 machine features controls s =
     record { features = features; controls = controls; cntvoff = s .cntvoff; cntpoff = s .cntpoff; timers = s .timers }
 

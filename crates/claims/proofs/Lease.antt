@@ -12,30 +12,33 @@ use native.Mathlib.Omega.{arith}
 use borrow.Author.Tests.{le-leb, lt-leb}
 use Rattle.rules.specs.declared.answer.Lines.{Lines}
 use Rattle.rules.specs.declared.answer.Outcome.{Outcome}
+use Rattle.rules.specs.declared.facts.Facts.{Facts}
 use Rattle.rules.specs.declared.name.Part.{Part}
 use Rattle.rules.specs.declared.name.Part.the-variants.{Tval, Ctl}
 use Rattle.rules.specs.declared.state.Controls.{Controls}
 use Rattle.rules.specs.declared.state.Features.{Features}
 use Rattle.rules.specs.declared.state.State.{State}
 use Rattle.rules.specs.declared.state.Timer.{Timer}
+use Rattle.rules.specs.declared.state.Timers.{Timers}
 use Rattle.rules.specs.declared.state.TimerName.{TimerName}
 use Rattle.rules.specs.declared.state.TimerName.the-variants.{Cntv}
 use Rattle.rules.specs.declared.verdict.Target.{Target}
-use Rattle.rules.specs.Words.{EL3, factsOf}
-use Rattle.rules.specs.Names.{isMrs}
+use Rattle.rules.specs.Words.{EL3, offsetOn, factsOf}
+use Rattle.rules.specs.Names.{isMrs, rtOf}
 use Rattle.rules.specs.Arithmetic.{_plus_, signed32}
 use Rattle.rules.specs.Timers.{same, put, withTimers}
-use Rattle.rules.specs.Counts.{countOf}
+use Rattle.rules.specs.Counts.{offsetSeen}
 use Rattle.rules.specs.Values.{raised, readTimer, writeTimer, readOf, writeOf}
+use Rattle.rules.specs.Answers.{doneRead}
 use Rattle.rules.specs.Context.{impossible, impossibleAt}
 use Rattle.rules.specs.Access.{accessOf}
 use Rattle.rules.specs.Lines.{lineOf, linesOf}
 use Rattle.rules.proofs.Timers.{get-put-other}
-use Rattle.rules.proofs.Lease.{value-then-control, control-then-value, raised-at, ahead-from, ahead-wraps, back-from, back-wraps, small-signed, large-signed}
+use Rattle.rules.proofs.Lease.{value-then-control, control-then-value, raised-at, status-at, cntv-count, ahead-from, ahead-wraps, back-from, back-wraps, left-at, left-ahead, left-over, left-back, small-signed, large-signed}
 use Rattle.claims.specs.Desk.{Access, serve, stateAfter, Permitted}
 use Rattle.claims.specs.Guests.{Alike, SequencesAlike}
-use Rattle.claims.specs.Lease.{virtualAt, lineAt, PermittedWrite, taken, Lease, Armed, EndsAtTheDeadline, UpFrom, NotEarlyNotLate, OfTheLease, NoneReachesIt, SameLease, LeftAlone, left, TvalTellsTheTruth, ByTheGuestAlone, LeaseKept, LeaseClaim}
-use Rattle.claims.proofs.Guests.{alike-still, any-sequence, one-access}
+use Rattle.claims.specs.Lease.{virtualAt, lineAt, PermittedWrite, PermittedRead, taken, deadlineOf, Lease, Takes, Armed, Renewed, GivenBack, EndsAtTheDeadline, UpFrom, NotEarlyNotLate, OfTheLease, NoneReachesIt, SameLease, LeftAlone, ticksLeft, TvalTellsTheTruth, ByTheGuestAlone, LeaseKept, LeaseClaim}
+use Rattle.claims.proofs.Guests.{machine, alike-still, any-sequence, one-access}
 use Rattle.claims.proofs.Refusals.{reads-move-nothing}
 use Rattle.claims.proofs.Ways.{ways}
 use Rattle.claims.proofs.Writes.{writes-change-one, reads-give}
@@ -44,9 +47,10 @@ use Rattle.claims.proofs.Writes.{writes-change-one, reads-give}
 
 -- a permitted write to CNTV: CNTV is written at the virtual count, and the rest stands
 cntv-written : (s : State) (a : Access) (p : Part) → PermittedWrite s a (Target.Timer Cntv p) → serve accessOf s a .next ≡ withTimers s (put (s .timers) Cntv (writeTimer (s .timers .cntv) p (virtualAt s (a .count)) (taken a)))
-unfolding writeOf countOf
+unfolding writeOf
 cntv-written s a p w =
     writes-change-one s (a .word) (a .level) (a .operand) (a .count) (Target.Timer Cntv p) (w .write) (w .permitted) .next
+    ∙ ap (λ (v : ℕ). withTimers s (put (s .timers) Cntv (writeTimer (s .timers .cntv) p v (taken a)))) (cntv-count (offsetSeen (factsOf s (a .level))) s (a .count))
 
 -- what was permitted was on a machine that can be
 second-of-four : (a b c d : Bool) → a || b || c || d ≡ false → b ≡ false
@@ -62,33 +66,63 @@ module _ (s : State) (a : Access) where
   abbrev next : State
   next = serve accessOf s a .next
 
-  -- a write of either register of CNTV leaves the machine one that can be
-  still-possible : (p : Part) → PermittedWrite s a (Target.Timer Cntv p) → impossible next ≡ false
-  unfolding impossible
-  still-possible p w =
-      ap (λ (n : State). impossible n) (cntv-written s a p w) ∙ possible (w .permitted)
+  -- a write of CNTV leaves the machine one that can be, its offset, and what else was permitted
+  module _ (p : Part) (w : PermittedWrite s a (Target.Timer Cntv p)) where
+    still-possible : impossible next ≡ false
+    unfolding impossible
+    still-possible = ap (λ (n : State). impossible n) (cntv-written s a p w) ∙ possible (w .permitted)
 
-  cntv-after : (p : Part) → PermittedWrite s a (Target.Timer Cntv p) → next .timers .cntv ≡ writeTimer (s .timers .cntv) p (virtualAt s (a .count)) (taken a)
-  cntv-after p w = ap (λ (n : State). n .timers .cntv) (cntv-written s a p w)
+    cntv-after : next .timers .cntv ≡ writeTimer (s .timers .cntv) p (virtualAt s (a .count)) (taken a)
+    cntv-after = ap (λ (n : State). n .timers .cntv) (cntv-written s a p w)
 
-  cntvoff-after : (p : Part) → PermittedWrite s a (Target.Timer Cntv p) → next .cntvoff ≡ s .cntvoff
-  cntvoff-after p w = ap (λ (n : State). n .cntvoff) (cntv-written s a p w)
+    cntvoff-after : next .cntvoff ≡ s .cntvoff
+    cntvoff-after = ap (λ (n : State). n .cntvoff) (cntv-written s a p w)
+
+    timers-apart : (ts : Timers) (b : Access) (target : Target) → PermittedWrite s b target → PermittedWrite (withTimers s ts) b target
+    unfolding factsOf impossible impossibleAt
+    timers-apart ts b target v =
+        record {
+          write = v .write;
+          permitted = record {
+            name = v .permitted .name;
+            named = v .permitted .named;
+            possible = v .permitted .possible;
+            verdict = v .permitted .verdict;
+          };
+        }
+
+    still-permitted : (b : Access) (target : Target) → PermittedWrite s b target → PermittedWrite next b target
+    still-permitted b target v =
+        subst (λ (n : State). PermittedWrite n b target) (sym (cntv-written s a p w)) (timers-apart _ b target v)
+
+module _ (s : State) (value control : Access) (t : Takes s value control) where
+  value-first : Lease (stateAfter accessOf s (value ∷ control ∷ [])) (deadlineOf s value)
+  unfolding writeTimer
+  value-first =
+      let then : PermittedWrite (next s value) control (Target.Timer Cntv Ctl) = still-permitted s value Tval (t .tval) control _ (t .ctl) in
+      record {
+        possible = still-possible (next s value) control Ctl then;
+        cntv = cntv-after (next s value) control Ctl then ∙ rw (cntv-after s value Tval (t .tval)) (value-then-control (s .timers .cntv) (virtualAt s (value .count)) (taken value) (taken control) (t .enable) (t .unmask));
+      }
+
+  control-first : Lease (stateAfter accessOf s (control ∷ value ∷ [])) (deadlineOf s value)
+  unfolding writeTimer
+  control-first =
+      let then : PermittedWrite (next s control) value (Target.Timer Cntv Tval) = still-permitted s control Ctl (t .ctl) value _ (t .tval) in
+      record {
+        possible = still-possible (next s control) value Tval then;
+        cntv = cntv-after (next s control) value Tval then ∙ rw (cntv-after s control Ctl (t .ctl), cntvoff-after s control Ctl (t .ctl)) (control-then-value (s .timers .cntv) (virtualAt s (value .count)) (taken value) (taken control) (t .enable) (t .unmask));
+      }
 
 armed : Armed
+armed s value control both t order =
+    ⊎-elim (λ e. subst (λ (l : List Access). Lease (stateAfter accessOf s l) (deadlineOf s value)) (sym e) (value-first s value control t))
+    (λ e. subst (λ (l : List Access). Lease (stateAfter accessOf s l) (deadlineOf s value)) (sym e) (control-first s value control t)) order
+
+renewed : Renewed
 unfolding writeTimer
-armed =
-    record {
-      valueFirst = λ s value control v c on. record {
-        possible = still-possible (next s value) control Ctl c;
-        cntv = cntv-after (next s value) control Ctl c
-            ∙ rw (cntv-after s value Tval v) (value-then-control (s .timers .cntv) (virtualAt s (value .count)) (taken value) (taken control) (on .0) (on .1));
-      };
-      controlFirst = λ s control value c v on. record {
-        possible = still-possible (next s control) value Tval v;
-        cntv = cntv-after (next s control) value Tval v
-            ∙ rw (cntv-after s control Ctl c, cntvoff-after s control Ctl c) (control-then-value (s .timers .cntv) (virtualAt s (value .count)) (taken value) (taken control) (on .0) (on .1));
-      };
-    }
+renewed s old value lease w =
+    record { possible = still-possible s value Tval w; cntv = cntv-after s value Tval w ∙ rw (lease .cntv) }
 
 -- ---- 2. Not early, not late
 
@@ -98,19 +132,32 @@ cntv-of-either false x y = refl
 
 -- the line is down on a machine that cannot be, and else CNTV's, at the virtual count
 line-is : (s : State) (physical : ℕ) → lineAt s physical ≡ cond (impossible s) false (raised (s .timers .cntv) (virtualAt s physical))
-unfolding linesOf lineOf countOf
-line-is s physical = cntv-of-either (impossible s) _ _
+unfolding linesOf lineOf
+line-is s physical = cntv-of-either (impossible s) _ _ ∙ rw (cntv-count (offsetOn s) s physical)
+
+given-back : GivenBack
+unfolding writeTimer
+given-back s control physical w off =
+    line-is (next s control) physical ∙ rw (still-possible s control Ctl w, cntv-after s control Ctl w, off)
 
 line-of-lease : (s : State) (deadline : ℕ) → Lease s deadline → (physical : ℕ) → lineAt s physical ≡ leb deadline (virtualAt s physical)
 line-of-lease s deadline lease physical =
     line-is s physical ∙ rw (lease .possible, lease .cntv) (raised-at deadline (virtualAt s physical))
 
-status-of-lease : EndsAtTheDeadline
-unfolding readOf readTimer countOf
-status-of-lease s deadline lease =
+-- what a permitted read of CNTV gives
+cntv-read : (s : State) (a : Access) (p : Part) → PermittedRead s a (Target.Timer Cntv p) → serve accessOf s a .answer ≡ doneRead (rtOf (a .word)) (readTimer (s .timers .cntv) p (virtualAt s (a .count)) (virtualAt s (a .count)))
+unfolding readOf
+cntv-read s a p r =
+    let f : Facts = factsOf s (a .level) in
+    reads-give s (a .word) (a .level) (a .operand) (a .count) (Target.Timer Cntv p) (r .read) (r .permitted)
+    ∙ rw (cntv-count (offsetSeen f) s (a .count), cntv-count (f .offset) s (a .count))
+
+ends-at-the-deadline : EndsAtTheDeadline
+unfolding readTimer
+ends-at-the-deadline s deadline lease =
     record {
       line = line-of-lease s deadline lease;
-      status = λ a r. reads-give s (a .word) (a .level) (a .operand) (a .count) (Target.Timer Cntv Ctl) (r .read) (r .permitted) ∙ rw (lease .cntv);
+      status = λ a r. cntv-read s a Ctl r ∙ rw (lease .cntv) (ap (doneRead (rtOf (a .word))) (status-at deadline (virtualAt s (a .count))));
     }
 
 up-from : (s : State) (deadline : ℕ) → Lease s deadline → UpFrom s deadline
@@ -126,20 +173,15 @@ not-early-not-late s v x fits lease =
     record {
       ahead = λ n a h. subst (UpFrom s) (ahead-from x n (a .low) (a .small) v h) from;
       back = λ k b h.
-          let is : UpFrom s (v - k) = subst (UpFrom s) (back-from x k (b .low) (b .some) (b .small) v fits h) from in
+          let is : UpFrom s (v - k) = subst (UpFrom s) (back-from x k (b .low) (b .small) v fits h) from in
           (is, λ physical later. is .up physical (omega arith));
       aheadWraps = λ n a h.
           let is : UpFrom s (v + n - 2 ^ 64) = subst (UpFrom s) (ahead-wraps x n (a .low) (a .small) v fits h) from in
           (is, λ physical later. is .up physical (omega (arith, a .small)));
-      backWraps = λ k b h. subst (UpFrom s) (back-wraps x k (b .low) (b .some) (b .small) v h) from;
+      backWraps = λ k b h. subst (UpFrom s) (back-wraps x k (b .low) (b .small) v h) from;
     }
 
 -- ---- 3. Left alone
-
--- a state of which only features and controls matter
-abbrev machine : Features → Controls → State → State
-machine features controls s =
-    record { features = features; controls = controls; cntvoff = s .cntvoff; cntpoff = s .cntpoff; timers = s .timers }
 
 module _ (s t : State) (alike : Alike s t) where
   impossible-alike : impossible s ≡ impossible t
@@ -147,15 +189,13 @@ module _ (s t : State) (alike : Alike s t) where
   impossible-alike =
       ap₂ (λ (f : Features) (c : Controls). impossible (machine f c s)) (alike .features) (alike .controls)
 
-  line-alike : (p q : ℕ) → virtualAt s p ≡ virtualAt t q → lineAt s p ≡ lineAt t q
-  line-alike p q same = line-is s p ∙ rw (impossible-alike, alike .cntv, same) (sym (line-is t q))
-
   -- machines alike have the same lease
   same-lease : SameLease s t
   same-lease =
       record {
+        timer = alike .cntv;
         deadline = λ d lease. record { possible = sym impossible-alike ∙ lease .possible; cntv = sym (alike .cntv) ∙ lease .cntv };
-        line = line-alike;
+        line = λ p q same. line-is s p ∙ rw (impossible-alike, alike .cntv, same) (sym (line-is t q));
       }
 
 -- what a lease stands on is as it was
@@ -224,13 +264,14 @@ left-alone s accesses none =
 -- ---- 4. TVAL tells the truth
 
 tval-tells-the-truth : TvalTellsTheTruth
-unfolding readOf readTimer countOf
+unfolding readTimer
 tval-tells-the-truth =
     record {
-      reads = λ s v x a lease r. reads-give s (a .word) (a .level) (a .operand) (a .count) (Target.Timer Cntv Tval) (r .read) (r .permitted) ∙ rw (lease .cntv);
-      signed = λ v x w fits. ⊎-elim (λ h. small-signed (left v x w) h) (λ h. large-signed (left v x w) (h .0) (h .1)) fits;
-      running = λ v x n w a h k. rw (ahead-from x n (a .low) (a .small) v h) (omega arith);
-      over = λ v x n w a h k. rw (ahead-from x n (a .low) (a .small) v (omega arith)) (omega arith);
+      reads = λ s v x a lease r. cntv-read s a Tval r ∙ rw (lease .cntv) (ap (doneRead (rtOf (a .word))) (left-at (v plus signed32 x) (virtualAt s (a .count))));
+      signed = λ v x w fits. ⊎-elim (λ h. small-signed (ticksLeft v x w) h) (λ h. large-signed (ticksLeft v x w) (h .0) (h .1)) fits;
+      ahead = λ v x n w f a h k. left-ahead x n (a .low) (a .small) v w f h k;
+      over = λ v x n w f a h. left-over x n (a .low) (a .small) v w f h;
+      back = λ v x k w f b h i. left-back x k (b .low) (b .small) v w f h i;
     }
 
 -- ---- 5. By the guest alone
@@ -245,18 +286,19 @@ by-the-guest-alone s t as₁ as₂ guest alike shown =
 -- ---- the claim
 
 lease-kept : LeaseKept
-lease-kept s value control accesses n v c on none ahead fits =
-    let taken-at : State = stateAfter accessOf s (value ∷ control ∷ []) in
-    let d : ℕ = virtualAt s (value .count) plus signed32 (taken value) in
-    let kept : Lease (stateAfter accessOf taken-at accesses) d = left-alone taken-at accesses none .1 .deadline d (armed .valueFirst s value control v c on) in
-    not-early-not-late (stateAfter accessOf taken-at accesses) (virtualAt s (value .count)) (taken value) (omega arith) kept .ahead n ahead fits
+lease-kept s value control both accesses takes order none =
+    let begun : State = stateAfter accessOf s both in
+    not-early-not-late (stateAfter accessOf begun accesses) (virtualAt s (value .count)) (taken value) (omega arith)
+    (left-alone begun accesses none .1 .deadline (deadlineOf s value) (armed s value control both takes order))
 
 pub lease-claim : LeaseClaim
 lease-claim =
     record {
       kept = lease-kept;
       armed = armed;
-      endsAtTheDeadline = status-of-lease;
+      renewed = renewed;
+      givenBack = given-back;
+      endsAtTheDeadline = ends-at-the-deadline;
       notEarlyNotLate = not-early-not-late;
       leftAlone = left-alone;
       tvalTellsTheTruth = tval-tells-the-truth;

@@ -1,6 +1,8 @@
 -- The example of a lease: the checker computes that each write is permitted and what it reaches, and the claim says the rest.
 -- Assumes nothing.
 use mathlib.Core.Bool.{true}
+use mathlib.Core.List.{[], _∷_}
+use mathlib.Core.Logic.{inl}
 use mathlib.Core.Path.{_≡_, refl, sym, subst, _∙_}
 use lib.Dec.{T}
 use native.Mathlib.Omega.{arith}
@@ -14,15 +16,16 @@ use Rattle.rules.specs.declared.verdict.Verdict.{Verdict}
 use Rattle.rules.specs.Words.{factsOf}
 use Rattle.rules.specs.Names.{nameOf, nameTable, isMrs}
 use Rattle.rules.specs.Cntv.{cntv}
-use Rattle.rules.specs.El2.{cnthp}
+use Rattle.rules.specs.El2.{cntvoff, cnthp}
 use Rattle.rules.specs.Verdicts.{verdictOf}
 use Rattle.rules.specs.Counts.{countOf}
 use Rattle.rules.specs.Values.{writeTimer, writeOf}
 use Rattle.rules.specs.Context.{impossible, impossibleAt}
 use Rattle.rules.specs.Access.{permitted, ruled, served, accessOf}
+use Rattle.rules.specs.Lines.{lineOf, linesOf}
 use Rattle.rules.specs.Readings.{start}
-use Rattle.claims.specs.Desk.{Access, serve}
-use Rattle.claims.specs.Lease.{PermittedWrite, OfTheLease, NoneReachesIt, Ahead, TurnsOn, taken}
+use Rattle.claims.specs.Desk.{Access}
+use Rattle.claims.specs.Lease.{PermittedWrite, taken, Takes, OfTheLease, NoneReachesIt, Ahead}
 use Rattle.claims.specs.LeaseExample.{value, control, onTheWay, begun, LeaseExample}
 use Rattle.claims.proofs.Lease.{lease-claim}
 
@@ -51,18 +54,25 @@ on-the-way = (
   ),
 )
 
+takes-it : Takes start value control
+unfolding factsOf nameOf nameTable cntv verdictOf impossible impossibleAt
+takes-it =
+    record {
+      tval = record { write = refl; permitted = record { name = Name.Cntv Tval; named = refl; possible = refl; verdict = refl } };
+      ctl = record { write = refl; permitted = record { name = Name.Cntv Ctl; named = refl; possible = refl; verdict = refl } };
+      enable = refl;
+      unmask = refl;
+    }
+
 pub lease-example : LeaseExample
-unfolding factsOf nameOf nameTable cntv verdictOf countOf writeTimer writeOf impossible impossibleAt permitted ruled served accessOf
+unfolding factsOf nameOf nameTable cntv cntvoff verdictOf countOf writeTimer writeOf impossible impossibleAt permitted ruled served accessOf lineOf linesOf
 lease-example =
-    let written : PermittedWrite start value (Target.Timer Cntv Tval) = record { write = refl; permitted = record { name = Name.Cntv Tval; named = refl; possible = refl; verdict = refl } } in
-    let enabled : PermittedWrite (serve accessOf start value .next) control (Target.Timer Cntv Ctl) = record { write = refl; permitted = record { name = Name.Cntv Ctl; named = refl; possible = refl; verdict = refl } } in
-    let on : TurnsOn (taken control) = (refl, refl) in
     let ahead : Ahead (taken value) 500 = record { low = refl; small = omega arith } in
     record {
-      written = written;
-      enabled = enabled;
-      on = on;
+      takes = takes-it;
       alone = on-the-way;
       ahead = ahead;
-      ends = lease-claim .kept start value control onTheWay 500 written enabled on on-the-way ahead (omega arith);
+      ends = lease-claim .kept start value control (value ∷ control ∷ []) onTheWay takes-it (inl refl) on-the-way .ahead 500 ahead (omega arith);
+      before = refl;
+      after = refl;
     }

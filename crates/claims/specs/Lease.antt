@@ -1,7 +1,7 @@
 -- The lease, in the customer's words. A clerk reserves a slot for n ticks, the guest arms its virtual timer for them, and the
 -- lease ends neither early nor late: its end is the moment the timer's line is raised. Time here is the virtual count,
 -- physical less CNTVOFF.
-use Prim.Native.Nat.{ℕ, _+_, _-_, _^_, _<_, _≤_}
+use Prim.Native.Nat.{ℕ, _+_, _-_, _%_, _^_, _<_, _≤_}
 use mathlib.Core.Bool.{Bool, true, false, cond}
 use mathlib.Core.List.{List, [], _∷_}
 use mathlib.Core.Logic.{_⊎_}
@@ -12,7 +12,7 @@ use Rattle.rules.specs.declared.state.State.{State}
 use Rattle.rules.specs.declared.state.TimerName.the-variants.{Cntv}
 use Rattle.rules.specs.declared.verdict.Target.{Target}
 use Rattle.rules.specs.declared.verdict.Target.the-variants.{Cntpct, Cntvct, Cntvoff, Timer}
-use Rattle.rules.specs.Bits.{bits, bit}
+use Rattle.rules.specs.Bits.{bit}
 use Rattle.rules.specs.Names.{isMrs, rtOf, writtenOperand}
 use Rattle.rules.specs.Arithmetic.{_plus_, _less_, signed32}
 use Rattle.rules.specs.Timers.{same, timerOf}
@@ -26,7 +26,7 @@ use Rattle.claims.specs.Guests.{TrappedGuest, Alike, AllShown}
 
 -- ---- words
 
--- the virtual count at a physical count
+-- the virtual count at a physical count; not by the rulebook's word for it, so that an offset of the wrong sign would show
 abbrev pub virtualAt : State → ℕ → ℕ
 virtualAt s physical = physical less s .cntvoff
 
@@ -47,6 +47,10 @@ pub record PermittedRead (s : State) (a : Access) (target : Target) : Type 0 whe
 abbrev pub taken : Access → ℕ
 taken a = writtenOperand (a .word) (a .operand)
 
+-- what a TVAL write sets: v plus n, v the virtual count and n the low 32 bits as signed
+abbrev pub deadlineOf : State → Access → ℕ
+deadlineOf s value = virtualAt s (value .count) plus signed32 (taken value)
+
 -- a lease that ends at a deadline: CNTV is on and unmasked and its CVAL is the deadline, on a machine that can be
 pub record Lease (s : State) (deadline : ℕ) : Type 0 where
   pub possible : impossible s ≡ false
@@ -54,29 +58,44 @@ pub record Lease (s : State) (deadline : ℕ) : Type 0 where
 
 -- ---- 1. Armed
 
--- CTL with ENABLE 1 and IMASK 0
-abbrev pub TurnsOn : ℕ → Type 0
-TurnsOn x = (bit 0 x ≡ true) × (bit 1 x ≡ false)
+-- the two writes of a lease are permitted: TVAL, and CTL with ENABLE 1 and IMASK 0; at any levels and counts
+pub record Takes (s : State) (value control : Access) : Type 0 where
+  pub tval : PermittedWrite s value (Timer Cntv Tval)
+  pub ctl : PermittedWrite s control (Timer Cntv Ctl)
+  pub enable : bit 0 (taken control) ≡ true
+  pub unmask : bit 1 (taken control) ≡ false
 
--- a permitted write of n, the low 32 bits as signed, to TVAL at virtual count v, and a permitted write of CTL that turns
--- the timer on, in either order and at any levels, leave a lease that ends at v plus n
-pub record Armed : Type 0 where
-  pub valueFirst :
-      (s : State) (value control : Access) →
-      PermittedWrite s value (Timer Cntv Tval) →
-      PermittedWrite (serve accessOf s value .next) control (Timer Cntv Ctl) →
-      TurnsOn (taken control) →
-      Lease (stateAfter accessOf s (value ∷ control ∷ [])) (virtualAt s (value .count) plus signed32 (taken value))
-  pub controlFirst :
-      (s : State) (control value : Access) →
-      PermittedWrite s control (Timer Cntv Ctl) →
-      PermittedWrite (serve accessOf s control .next) value (Timer Cntv Tval) →
-      TurnsOn (taken control) →
-      Lease (stateAfter accessOf s (control ∷ value ∷ [])) (virtualAt s (value .count) plus signed32 (taken value))
+abbrev pub InEitherOrder : Access → Access → List Access → Type 0
+InEitherOrder a b both = (both ≡ a ∷ b ∷ []) ⊎ (both ≡ b ∷ a ∷ [])
+
+-- they leave a lease that ends at v plus n
+abbrev pub Armed : Type 0
+Armed =
+    (s : State) (value control : Access) (both : List Access) →
+    Takes s value control →
+    InEitherOrder value control both →
+    Lease (stateAfter accessOf s both) (deadlineOf s value)
+
+-- on a lease that runs, a permitted write of TVAL alone takes the next one
+abbrev pub Renewed : Type 0
+Renewed =
+    (s : State) (old : ℕ) (value : Access) →
+    Lease s old →
+    PermittedWrite s value (Timer Cntv Tval) →
+    Lease (serve accessOf s value .next) (deadlineOf s value)
+
+-- and a permitted write of CTL with ENABLE 0 gives it back: the line is down at every count
+abbrev pub GivenBack : Type 0
+GivenBack =
+    (s : State) (control : Access) (physical : ℕ) →
+    PermittedWrite s control (Timer Cntv Ctl) →
+    bit 0 (taken control) ≡ false →
+    lineAt (serve accessOf s control .next) physical ≡ false
 
 -- ---- 2. Not early, not late
 
--- the line is raised, and ISTATUS reads 1, exactly if the virtual count is not below the deadline, compared unsigned
+-- the line is raised, and ISTATUS, bit 2 beside ENABLE, reads 1, exactly if the virtual count is not below the deadline,
+-- compared unsigned
 pub record EndsAt (s : State) (deadline : ℕ) : Type 0 where
   pub line : (physical : ℕ) → lineAt s physical ≡ leb deadline (virtualAt s physical)
   pub status :
@@ -90,12 +109,11 @@ EndsAtTheDeadline = (s : State) (deadline : ℕ) → Lease s deadline → EndsAt
 
 -- an operand of n ticks ahead, and of k ticks back
 pub record Ahead (x n : ℕ) : Type 0 where
-  pub low : bits 31 0 x ≡ n
+  pub low : x % 2 ^ 32 ≡ n
   pub small : n < 2 ^ 31
 
 pub record Back (x k : ℕ) : Type 0 where
-  pub low : bits 31 0 x ≡ 2 ^ 32 - k
-  pub some : 0 < k
+  pub low : x % 2 ^ 32 ≡ 2 ^ 32 - k
   pub small : k ≤ 2 ^ 31
 
 -- the line is down at every virtual count below `from`, and up at every one from there to the counter's end
@@ -107,7 +125,7 @@ pub record UpFrom (s : State) (from : ℕ) : Type 0 where
 abbrev pub UpAtOnce : State → ℕ → Type 0
 UpAtOnce s v = (physical : ℕ) → v ≤ virtualAt s physical → lineAt s physical ≡ true
 
--- so, in plain numbers, for a lease that was taken at virtual count v
+-- so, in plain numbers, for a lease of the operand x that was taken at virtual count v
 pub record InPlainNumbers (s : State) (v x : ℕ) : Type 0 where
   -- n ticks ahead: down until v + n, and up from there
   pub ahead : (n : ℕ) → Ahead x n → v + n < 2 ^ 64 → UpFrom s (v + n)
@@ -136,8 +154,9 @@ NoneReachesIt s [] = Unit {0}
 NoneReachesIt s (a ∷ rest) =
     ((target : Target) → OfTheLease target → PermittedWrite s a target → ⊥) × NoneReachesIt (serve accessOf s a .next) rest
 
--- the same lease: its deadline stands, and at each virtual count the line is the same
+-- the same lease: the timer as it is, so a deadline stands, and at each virtual count the same line
 pub record SameLease (s t : State) : Type 0 where
+  pub timer : s .timers .cntv ≡ t .timers .cntv
   pub deadline : (d : ℕ) → Lease s d → Lease t d
   pub line : (p q : ℕ) → virtualAt s p ≡ virtualAt t q → lineAt s p ≡ lineAt t q
 
@@ -149,13 +168,13 @@ LeftAlone =
 
 -- ---- 4. TVAL tells the truth
 
+-- the ticks that are left at virtual count w of a lease of the operand x that was taken at v: v plus n, less w
+abbrev pub ticksLeft : ℕ → ℕ → ℕ → ℕ
+ticksLeft v x w = (v plus signed32 x) less w
+
 -- a number of 64 bits that, as signed, fits 32
 abbrev pub Fits32 : ℕ → Type 0
 Fits32 y = (y < 2 ^ 31) ⊎ ((2 ^ 64 - 2 ^ 31 ≤ y) × (y < 2 ^ 64))
-
--- the ticks that are left at virtual count w of a lease of n taken at v: n less w plus v
-abbrev pub left : ℕ → ℕ → ℕ → ℕ
-left v x w = (v plus signed32 x) less w
 
 pub record TvalTellsTheTruth : Type 0 where
   -- a permitted read of TVAL gives them, all bits known
@@ -163,13 +182,17 @@ pub record TvalTellsTheTruth : Type 0 where
       (s : State) (v x : ℕ) (a : Access) →
       Lease s (v plus signed32 x) →
       PermittedRead s a (Timer Cntv Tval) →
-      serve accessOf s a .answer ≡ doneRead (rtOf (a .word)) (known (left v x (virtualAt s (a .count))))
+      serve accessOf s a .answer ≡ doneRead (rtOf (a .word)) (known (ticksLeft v x (virtualAt s (a .count))))
   -- taken as 32 signed bits they are the same number, if it fits
-  pub signed : (v x w : ℕ) → Fits32 (left v x w) → signed32 (left v x w) ≡ left v x w
-  -- in plain numbers, for n ticks ahead: v + n - w until the end, and as many ticks below 0 after it
-  pub running : (v x n w : ℕ) → Ahead x n → v + n < 2 ^ 64 → w ≤ v + n → left v x w ≡ v + n - w
-  pub over :
-      (v x n w : ℕ) → Ahead x n → v + n < w → w < 2 ^ 64 → left v x w ≡ 0 less (w - (v + n))
+  pub signed : (v x w : ℕ) → Fits32 (ticksLeft v x w) → signed32 (ticksLeft v x w) ≡ ticksLeft v x w
+  -- in plain numbers, n ticks ahead: v + n - w until then, over the counter's end too, where the line is up all the while
+  pub ahead :
+      (v x n w : ℕ) → w < 2 ^ 64 → Ahead x n → w ≤ v + n → v + n < w + 2 ^ 64 → ticksLeft v x w ≡ v + n - w
+  -- and after it as many ticks below 0
+  pub over : (v x n w : ℕ) → w < 2 ^ 64 → Ahead x n → v + n < w → ticksLeft v x w ≡ v + n + 2 ^ 64 - w
+  -- k ticks back: below 0 by k and what has passed since v
+  pub back :
+      (v x k w : ℕ) → w < 2 ^ 64 → Back x k → v ≤ w → w + k ≤ v + 2 ^ 64 → ticksLeft v x w ≡ v + 2 ^ 64 - (w + k)
 
 -- ---- 5. By the guest alone
 
@@ -185,22 +208,21 @@ ByTheGuestAlone =
 
 -- ---- the claim
 
--- the whole of it, for n ticks: the clerk's guest takes the lease, whatever is asked of the desk after that leaves it alone,
--- and the line is down until v + n and up from there
+-- the whole of it: a lease is taken at v, what is asked of the desk after that leaves it alone, and it ends as the plain
+-- numbers say
 abbrev pub LeaseKept : Type 0
 LeaseKept =
-    (s : State) (value control : Access) (accesses : List Access) (n : ℕ) →
-    PermittedWrite s value (Timer Cntv Tval) →
-    PermittedWrite (serve accessOf s value .next) control (Timer Cntv Ctl) →
-    TurnsOn (taken control) →
-    NoneReachesIt (stateAfter accessOf s (value ∷ control ∷ [])) accesses →
-    Ahead (taken value) n →
-    virtualAt s (value .count) + n < 2 ^ 64 →
-    UpFrom (stateAfter accessOf s (value ∷ control ∷ accesses)) (virtualAt s (value .count) + n)
+    (s : State) (value control : Access) (both accesses : List Access) →
+    Takes s value control →
+    InEitherOrder value control both →
+    NoneReachesIt (stateAfter accessOf s both) accesses →
+    InPlainNumbers (stateAfter accessOf (stateAfter accessOf s both) accesses) (virtualAt s (value .count)) (taken value)
 
 pub record LeaseClaim : Type 0 where
   pub kept : LeaseKept
   pub armed : Armed
+  pub renewed : Renewed
+  pub givenBack : GivenBack
   pub endsAtTheDeadline : EndsAtTheDeadline
   pub notEarlyNotLate : NotEarlyNotLate
   pub leftAlone : LeftAlone

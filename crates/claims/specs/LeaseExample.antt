@@ -1,16 +1,15 @@
--- A lease that there is: 500 ticks taken at virtual count 600 of the paper's start, as in examples/lease.txt. What is asked
--- on the way is read, trapped, or moves a timer of EL2.
+-- There is such a lease: that of examples/lease.txt, 500 ticks taken at virtual count 600 of the paper's start. Of what is
+-- asked on the way there, some reads, a trap and a write to a timer of EL2.
 use Prim.Native.Nat.{ℕ}
+use mathlib.Core.Bool.{true, false}
 use mathlib.Core.List.{List, [], _∷_}
-use Rattle.rules.specs.declared.name.Part.the-variants.{Tval, Ctl}
+use mathlib.Core.Path.{_≡_}
 use Rattle.rules.specs.declared.state.State.{State}
-use Rattle.rules.specs.declared.state.TimerName.the-variants.{Cntv}
-use Rattle.rules.specs.declared.verdict.Target.the-variants.{Timer}
 use Rattle.rules.specs.Words.{EL1, EL2}
 use Rattle.rules.specs.Access.{accessOf}
 use Rattle.rules.specs.Readings.{start}
 use Rattle.claims.specs.Desk.{Access, serve, stateAfter}
-use Rattle.claims.specs.Lease.{PermittedWrite, taken, TurnsOn, NoneReachesIt, Ahead, UpFrom}
+use Rattle.claims.specs.Lease.{lineAt, taken, Takes, NoneReachesIt, Ahead, UpFrom}
 
 abbrev asked : ℕ → ℕ → ℕ → ℕ → Access
 asked word level operand count = record { word = word; level = level; operand = operand; count = count }
@@ -30,11 +29,16 @@ onTheWay =
 abbrev pub begun : State
 begun = stateAfter accessOf start (value ∷ control ∷ [])
 
--- it meets what the claim asks, and ends at 600 + 500
+-- MSR CNTVOFF_EL2, XZR by EL2
+abbrev pub offsetMoved : Access
+offsetMoved = asked 0xD51CE07F EL2 0 1050
+
 pub record LeaseExample : Type 0 where
-  pub written : PermittedWrite start value (Timer Cntv Tval)
-  pub enabled : PermittedWrite (serve accessOf start value .next) control (Timer Cntv Ctl)
-  pub on : TurnsOn (taken control)
+  -- it meets what the claim asks, and ends at 600 + 500
+  pub takes : Takes start value control
   pub alone : NoneReachesIt begun onTheWay
   pub ahead : Ahead (taken value) 500
-  pub ends : UpFrom (stateAfter accessOf start (value ∷ control ∷ onTheWay)) 1100
+  pub ends : UpFrom (stateAfter accessOf begun onTheWay) 1100
+  -- CNTVOFF has to be left alone too: a write of it moves the end, here to physical 1100 from 1500
+  pub before : lineAt begun 1100 ≡ false
+  pub after : lineAt (serve accessOf begun offsetMoved .next) 1100 ≡ true

@@ -11,7 +11,7 @@ use Rattle.rules.specs.declared.state.State.{State}
 use Rattle.rules.specs.declared.state.Timer.{Timer}
 use Rattle.rules.specs.declared.state.TimerName.the-variants.{Cntv}
 use Rattle.rules.specs.Arithmetic.{_plus_, _less_, signed32}
-use Rattle.rules.specs.Bits.{bits, bit}
+use Rattle.rules.specs.Bits.{bit}
 use Rattle.rules.specs.Counts.{countOf}
 use Rattle.rules.specs.Timers.{timerOf}
 use Rattle.rules.specs.Values.{known, readTval, writeTval, raised, readCtl, writeCtl}
@@ -49,12 +49,12 @@ cntv-count applies s physical = refl
 
 -- ---- the deadline in plain numbers: n ticks ahead, or k ticks back, with and without a wrap
 
-module _ (x n : ℕ) (low : bits 31 0 x ≡ n) (small : n < 2 ^ 31) where
+module _ (x n : ℕ) (low : x % 2 ^ 32 ≡ n) (small : n < 2 ^ 31) where
   positive : bit 31 x ≡ false
   positive = ap (λ (b : ℕ). eqb b 1) (let zero : x / 2 ^ 31 % 2 ^ 1 ≡ 0 = omega arith in zero)
 
-  ahead : signed32 x ≡ n
-  ahead = rw positive low
+  pub ahead : signed32 x ≡ n
+  ahead = rw positive (omega arith)
 
   module _ (v : ℕ) where
     pub ahead-from : v + n < 2 ^ 64 → v plus signed32 x ≡ v + n
@@ -63,12 +63,12 @@ module _ (x n : ℕ) (low : bits 31 0 x ≡ n) (small : n < 2 ^ 31) where
     pub ahead-wraps : v < 2 ^ 64 → 2 ^ 64 ≤ v + n → v plus signed32 x ≡ v + n - 2 ^ 64
     ahead-wraps h k = rw ahead (omega arith)
 
-module _ (x k : ℕ) (low : bits 31 0 x ≡ 2 ^ 32 - k) (some : 0 < k) (small : k ≤ 2 ^ 31) where
+module _ (x k : ℕ) (low : x % 2 ^ 32 ≡ 2 ^ 32 - k) (small : k ≤ 2 ^ 31) where
   negative : bit 31 x ≡ true
   negative = ap (λ (b : ℕ). eqb b 1) (let one : x / 2 ^ 31 % 2 ^ 1 ≡ 1 = omega arith in one)
 
-  back : signed32 x ≡ 2 ^ 64 - k
-  back = rw (negative, low) (omega arith)
+  pub back : signed32 x ≡ 2 ^ 64 - k
+  back = rw negative (omega arith)
 
   module _ (v : ℕ) where
     pub back-from : v < 2 ^ 64 → k ≤ v → v plus signed32 x ≡ v - k
@@ -82,9 +82,20 @@ module _ (x k : ℕ) (low : bits 31 0 x ≡ 2 ^ 32 - k) (some : 0 < k) (small : 
 pub left-at : (deadline count : ℕ) → readTval (leased deadline) count ≡ known (deadline less count)
 left-at deadline count = refl
 
+-- in plain numbers
+module _ (x n : ℕ) (low : x % 2 ^ 32 ≡ n) (small : n < 2 ^ 31) (v w : ℕ) where
+  pub left-ahead : w < 2 ^ 64 → w ≤ v + n → v + n < w + 2 ^ 64 → (v plus signed32 x) less w ≡ v + n - w
+  left-ahead f h k = rw (ahead x n low small) (omega arith)
+
+  pub left-over : w < 2 ^ 64 → v + n < w → (v plus signed32 x) less w ≡ v + n + 2 ^ 64 - w
+  left-over f h = rw (ahead x n low small) (omega arith)
+
+pub left-back : (x k : ℕ) → x % 2 ^ 32 ≡ 2 ^ 32 - k → k ≤ 2 ^ 31 → (v w : ℕ) → w < 2 ^ 64 → v ≤ w → w + k ≤ v + 2 ^ 64 → (v plus signed32 x) less w ≡ v + 2 ^ 64 - (w + k)
+left-back x k low small v w f h i = rw (back x k low small) (omega arith)
+
 -- taken as 32 signed bits, a difference that fits them is what it is
 pub small-signed : (y : ℕ) → y < 2 ^ 31 → signed32 y ≡ y
 small-signed y h = ahead y y (omega arith) h
 
 pub large-signed : (y : ℕ) → 2 ^ 64 - 2 ^ 31 ≤ y → y < 2 ^ 64 → signed32 y ≡ y
-large-signed y h k = back y (2 ^ 64 - y) (omega arith) (omega arith) (omega arith) ∙ omega arith
+large-signed y h k = back y (2 ^ 64 - y) (omega arith) (omega arith) ∙ omega arith
