@@ -19,7 +19,6 @@ use Rattle.rules.specs.declared.state.Controls.{Controls}
 use Rattle.rules.specs.declared.state.Features.{Features}
 use Rattle.rules.specs.declared.state.State.{State}
 use Rattle.rules.specs.declared.state.Timer.{Timer}
-use Rattle.rules.specs.declared.state.Timers.{Timers}
 use Rattle.rules.specs.declared.state.TimerName.{TimerName}
 use Rattle.rules.specs.declared.state.TimerName.the-variants.{Cntv}
 use Rattle.rules.specs.declared.verdict.Target.{Target}
@@ -40,7 +39,7 @@ use Rattle.claims.specs.Guests.{Alike, SequencesAlike}
 use Rattle.claims.specs.Lease.{virtualAt, lineAt, PermittedWrite, PermittedRead, taken, deadlineOf, Lease, Takes, Armed, Renewed, GivenBack, EndsAtTheDeadline, UpFrom, NotEarlyNotLate, OfTheLease, NoneReachesIt, SameLease, LeftAlone, ticksLeft, TvalTellsTheTruth, ByTheGuestAlone, LeaseKept, LeaseClaim}
 use Rattle.claims.proofs.Guests.{machine, alike-still, any-sequence, one-access}
 use Rattle.claims.proofs.Refusals.{reads-move-nothing}
-use Rattle.claims.proofs.Ways.{ways}
+use Rattle.claims.proofs.Ways.{ways, whatever-timers}
 use Rattle.claims.proofs.Writes.{writes-change-one, reads-give}
 
 -- ---- 1. Armed
@@ -78,22 +77,12 @@ module _ (s : State) (a : Access) where
     cntvoff-after : next .cntvoff ≡ s .cntvoff
     cntvoff-after = ap (λ (n : State). n .cntvoff) (cntv-written s a p w)
 
-    timers-apart : (ts : Timers) (b : Access) (target : Target) → PermittedWrite s b target → PermittedWrite (withTimers s ts) b target
-    unfolding factsOf impossible impossibleAt
-    timers-apart ts b target v =
-        record {
-          write = v .write;
-          permitted = record {
-            name = v .permitted .name;
-            named = v .permitted .named;
-            possible = v .permitted .possible;
-            verdict = v .permitted .verdict;
-          };
-        }
-
     still-permitted : (b : Access) (target : Target) → PermittedWrite s b target → PermittedWrite next b target
     still-permitted b target v =
-        subst (λ (n : State). PermittedWrite n b target) (sym (cntv-written s a p w)) (timers-apart _ b target v)
+        record {
+          write = v .write;
+          permitted = subst (λ (n : State). Permitted n (b .word) (b .level) target) (sym (cntv-written s a p w)) (whatever-timers _ (v .permitted));
+        }
 
 module _ (s : State) (value control : Access) (t : Takes s value control) where
   value-first : Lease (stateAfter accessOf s (value ∷ control ∷ [])) (deadlineOf s value)

@@ -6,7 +6,6 @@ use mathlib.Core.Bool.{Bool, true, false, cond}
 use mathlib.Core.Path.{_≡_, refl, sym, ap, subst, subst₂, _∙_}
 use native.Mathlib.Omega.{arith}
 use Rattle.rules.specs.declared.answer.Value.{Value}
-use Rattle.rules.specs.declared.name.Lookup.{Lookup}
 use Rattle.rules.specs.declared.name.Name.{Name}
 use Rattle.rules.specs.declared.name.Name.the-variants.{Cntpct, Cntvct, Cntpctss, Cntvctss, Cntp, Cntv, Cntvoff, Cnthp, Cnthvs}
 use Rattle.rules.specs.declared.name.Part.the-variants.{Tval, Ctl, Cval}
@@ -17,8 +16,7 @@ use Rattle.rules.specs.declared.verdict.Verdict.{Verdict}
 use Rattle.rules.specs.declared.verdict.Verdict.the-variants.{Undefined, ToEl1, ToEl2, Reaches}
 use Rattle.rules.specs.Verdicts.{verdictOf}
 use Rattle.rules.specs.Words.{factsOf}
-use Rattle.rules.specs.Names.{nameOf, isMrs, rtOf, writtenOperand}
-use Rattle.rules.specs.Context.{impossible, impossibleAt}
+use Rattle.rules.specs.Names.{isMrs, rtOf, writtenOperand}
 use Rattle.rules.specs.Timers.{get, put, withTimers}
 use Rattle.rules.specs.Values.{readTval, writeTval, readTimer, writeTimer, readOf, writeOf}
 use Rattle.rules.specs.Answers.{doneRead}
@@ -26,6 +24,7 @@ use Rattle.rules.specs.Access.{accessOf}
 use Rattle.rules.proofs.Timers.{get-put-same}
 use Rattle.rules.proofs.Verdicts.{cntp-holds, cntv-holds, cnthp-holds, cnthvs-holds}
 use Rattle.claims.specs.Desk.{Permitted}
+use Rattle.claims.proofs.Ways.{whatever-timers}
 use Rattle.claims.proofs.Writes.{writes-change-one, reads-give}
 use Rattle.rules.specs.Bits.{bit}
 use Rattle.rules.specs.Arithmetic.{_plus_, _less_, signed32}
@@ -155,11 +154,6 @@ module _ (f : Facts) (name : Name) (has : HasTval name) where
   unfolding verdictOf
   either-direction b c = tval-names (λ n. verdictOf f n b ≡ verdictOf f n c) refl refl refl refl name has
 
--- a write that reached a timer leaves features and controls, and so the context and the gates, as they were
-stays-permitted : (level count : ℕ) (t : TimerName) (s : State) (x : ℕ) (read : ℕ) (name : Name) → nameOf read ≡ Lookup.Named name → impossibleAt s level ≡ false → verdictOf (factsOf s level) name (isMrs read) ≡ Reaches (Target.Timer t Tval) → Permitted (written level count t s x) read level (Target.Timer t Tval)
-unfolding factsOf impossible impossibleAt
-stays-permitted level count t s x read name n i v = record { name = name; named = n; possible = i; verdict = v }
-
 pub read-follows-write : ReadFollowsWrite
 read-follows-write s write read level operand count name target has n m msr p =
     let f : Facts = factsOf s level in
@@ -168,4 +162,6 @@ read-follows-write s write read level operand count name target has n m msr p =
     let alone : TvalAlone (Reaches target) = subst TvalAlone verdict (tval-alone f name has (isMrs write)) in
     let t : TimerName = alone .0 in
     let reached : Permitted s write level (Target.Timer t Tval) = subst (Permitted s write level) (alone .1) p in
-    (t, alone .1, subst (λ (s′ : State). Permitted s′ read level (Target.Timer t Tval)) (sym (write-leaves level count t s write operand msr reached)) (stays-permitted level count t s (writtenOperand write operand) read name m (p .possible) (either-direction f name has (isMrs read) (isMrs write) ∙ verdict ∙ ap Reaches (alone .1))))
+    let verdict-of-read : verdictOf f name (isMrs read) ≡ Reaches (Target.Timer t Tval) = either-direction f name has (isMrs read) (isMrs write) ∙ verdict ∙ ap Reaches (alone .1) in
+    let then : Permitted s read level (Target.Timer t Tval) = record { name = name; named = m; possible = p .possible; verdict = verdict-of-read } in
+    (t, alone .1, subst (λ (s′ : State). Permitted s′ read level (Target.Timer t Tval)) (sym (write-leaves level count t s write operand msr reached)) (whatever-timers _ then))

@@ -1,5 +1,6 @@
 -- The two ways that an access ends: with an answer other than 0 and the state as before, or permitted, with the register
 -- that the verdict names read or written. The order of the desk, 4, 5, then the verdict, is gone through once, here.
+-- What is permitted is a matter of features and controls: other timers do not change it.
 -- Assumes nothing.
 use Prim.Native.Nat.{ℕ}
 use mathlib.Core.Bool.{Bool, true, false}
@@ -11,6 +12,7 @@ use Rattle.rules.specs.declared.name.Lookup.{Lookup}
 use Rattle.rules.specs.declared.name.Lookup.the-variants.{Named, NotNamed}
 use Rattle.rules.specs.declared.name.Name.{Name}
 use Rattle.rules.specs.declared.state.State.{State}
+use Rattle.rules.specs.declared.state.Timers.{Timers}
 use Rattle.rules.specs.declared.verdict.Target.{Target}
 use Rattle.rules.specs.declared.verdict.Verdict.{Verdict}
 use Rattle.rules.specs.declared.verdict.Verdict.the-variants.{Undefined, ToEl1, ToEl2, Reaches}
@@ -18,7 +20,8 @@ use Rattle.rules.specs.Words.{factsOf}
 use Rattle.rules.specs.Names.{nameOf, isMrs, rtOf}
 use Rattle.rules.specs.Verdicts.{verdictOf}
 use Rattle.rules.specs.Answers.{done, trapToEl1, trapToEl2, notNamed, impossibleContext, undefinedAt, trapped, refused, asBefore}
-use Rattle.rules.specs.Context.{impossibleAt}
+use Rattle.rules.specs.Timers.{withTimers}
+use Rattle.rules.specs.Context.{impossible, impossibleAt}
 use Rattle.rules.specs.Access.{permitted, ruled, served, accessOf}
 use Rattle.claims.specs.Desk.{Permitted}
 
@@ -55,3 +58,8 @@ module _ (s : State) (word level operand count : ℕ) where
   pub ends : (target : Target) → Permitted s word level target → accessOf s word level operand count ≡ permitted (factsOf s level) s word operand count target
   unfolding accessOf served ruled
   ends target p = rw (p .named, p .possible, p .verdict)
+
+-- the name, the context and the gates do not look at the timers
+pub whatever-timers : {s : State} {word level : ℕ} {target : Target} (ts : Timers) → Permitted s word level target → Permitted (withTimers s ts) word level target
+unfolding factsOf impossible impossibleAt
+whatever-timers ts p = record { name = p .name; named = p .named; possible = p .possible; verdict = p .verdict }
