@@ -34,7 +34,7 @@ use Rattle.rules.specs.Access.{accessOf}
 use Rattle.rules.specs.Lines.{lineOf, linesOf}
 use Rattle.rules.proofs.Timers.{get-put-other}
 use Rattle.rules.proofs.Lease.{value-then-control, control-then-value, raised-at, status-at, cntv-count, ahead-from, ahead-wraps, back-from, back-wraps, left-at, left-ahead, left-over, left-back, small-signed, large-signed}
-use Rattle.claims.specs.Desk.{Access, serve, stateAfter, Permitted}
+use Rattle.claims.specs.Desk.{Access, serve, endState, Permitted}
 use Rattle.claims.specs.Guests.{Alike, SequencesAlike}
 use Rattle.claims.specs.Lease.{virtualAt, lineAt, PermittedWrite, PermittedRead, taken, deadlineOf, Lease, Takes, Armed, Renewed, GivenBack, EndsAtTheDeadline, UpFrom, NotEarlyNotLate, OfTheLease, NoneReachesIt, SameLease, LeftAlone, ticksLeft, TvalTellsTheTruth, ByTheGuestAlone, LeaseKept, LeaseClaim}
 use Rattle.claims.proofs.Guests.{machine, alike-still, any-sequence, one-access}
@@ -85,7 +85,7 @@ module _ (s : State) (a : Access) where
         }
 
 module _ (s : State) (value control : Access) (t : Takes s value control) where
-  value-first : Lease (stateAfter accessOf s (value ∷ control ∷ [])) (deadlineOf s value)
+  value-first : Lease (endState accessOf s (value ∷ control ∷ [])) (deadlineOf s value)
   unfolding writeTimer
   value-first =
       let then : PermittedWrite (next s value) control (Target.Timer Cntv Ctl) = still-permitted s value Tval (t .tval) control _ (t .ctl) in
@@ -94,7 +94,7 @@ module _ (s : State) (value control : Access) (t : Takes s value control) where
         cntv = cntv-after (next s value) control Ctl then ∙ rw (cntv-after s value Tval (t .tval)) (value-then-control (s .timers .cntv) (virtualAt s (value .count)) (taken value) (taken control) (t .enable) (t .unmask));
       }
 
-  control-first : Lease (stateAfter accessOf s (control ∷ value ∷ [])) (deadlineOf s value)
+  control-first : Lease (endState accessOf s (control ∷ value ∷ [])) (deadlineOf s value)
   unfolding writeTimer
   control-first =
       let then : PermittedWrite (next s control) value (Target.Timer Cntv Tval) = still-permitted s control Ctl (t .ctl) value _ (t .tval) in
@@ -105,8 +105,8 @@ module _ (s : State) (value control : Access) (t : Takes s value control) where
 
 armed : Armed
 armed s value control both t order =
-    ⊎-elim (λ e. subst (λ (l : List Access). Lease (stateAfter accessOf s l) (deadlineOf s value)) (sym e) (value-first s value control t))
-    (λ e. subst (λ (l : List Access). Lease (stateAfter accessOf s l) (deadlineOf s value)) (sym e) (control-first s value control t)) order
+    ⊎-elim (λ e. subst (λ (l : List Access). Lease (endState accessOf s l) (deadlineOf s value)) (sym e) (value-first s value control t))
+    (λ e. subst (λ (l : List Access). Lease (endState accessOf s l) (deadlineOf s value)) (sym e) (control-first s value control t)) order
 
 renewed : Renewed
 unfolding writeTimer
@@ -240,15 +240,15 @@ module _ (s : State) (a : Access) (none : (target : Target) → OfTheLease targe
       (λ w. by-direction (w .0) (w .1) (isMrs (a .word)) refl)
       (ways s (a .word) (a .level) (a .operand) (a .count))
 
-all-keep : (s : State) (accesses : List Access) → NoneReachesIt s accesses → Kept s (stateAfter accessOf s accesses)
+all-keep : (s : State) (accesses : List Access) → NoneReachesIt s accesses → Kept s (endState accessOf s accesses)
 all-keep s [] none = kept-here s
 all-keep s (a ∷ rest) none =
-    kept-on s (next s a) (stateAfter accessOf (next s a) rest) (one-keeps s a (none .0)) (all-keep (next s a) rest (none .1))
+    kept-on s (next s a) (endState accessOf (next s a) rest) (one-keeps s a (none .0)) (all-keep (next s a) rest (none .1))
 
 left-alone : LeftAlone
 left-alone s accesses none =
-    let kept : Kept s (stateAfter accessOf s accesses) = all-keep s accesses none in
-    (kept .cntvoff, same-lease s (stateAfter accessOf s accesses) (kept .alike))
+    let kept : Kept s (endState accessOf s accesses) = all-keep s accesses none in
+    (kept .cntvoff, same-lease s (endState accessOf s accesses) (kept .alike))
 
 -- ---- 4. TVAL tells the truth
 
@@ -268,16 +268,16 @@ tval-tells-the-truth =
 by-the-guest-alone : ByTheGuestAlone
 by-the-guest-alone s t as₁ as₂ guest alike shown =
     let end : SequencesAlike accessOf s t as₁ as₂ = any-sequence accessOf one-access s t as₁ as₂ guest alike shown in
-    let m : State = stateAfter accessOf s as₁ in
-    let n : State = stateAfter accessOf t as₂ in
+    let m : State = endState accessOf s as₁ in
+    let n : State = endState accessOf t as₂ in
     same-lease m n (alike-still s t m n alike (end .here) (end .there) (end .cntv))
 
 -- ---- the claim
 
 lease-kept : LeaseKept
 lease-kept s value control both accesses takes order none =
-    let begun : State = stateAfter accessOf s both in
-    not-early-not-late (stateAfter accessOf begun accesses) (virtualAt s (value .count)) (taken value) (omega arith)
+    let begun : State = endState accessOf s both in
+    not-early-not-late (endState accessOf begun accesses) (virtualAt s (value .count)) (taken value) (omega arith)
     (left-alone begun accesses none .1 .deadline (deadlineOf s value) (armed s value control both takes order))
 
 pub lease-claim : LeaseClaim

@@ -34,9 +34,9 @@ abbrev pub answersTo : Desk → State → List Access → List Answer
 answersTo desk s [] = []
 answersTo desk s (a ∷ rest) = serve desk s a .answer ∷ answersTo desk (serve desk s a .next) rest
 
-abbrev pub stateAfter : Desk → State → List Access → State
-stateAfter desk s [] = s
-stateAfter desk s (a ∷ rest) = stateAfter desk (serve desk s a .next) rest
+abbrev pub endState : Desk → State → List Access → State
+endState desk s [] = s
+endState desk s (a ∷ rest) = endState desk (serve desk s a .next) rest
 
 -- an access is permitted: its word has a name, its context is possible, and the verdict names the register that it reaches
 pub record Permitted (s : State) (word level : ℕ) (target : Target) : Type 0 where

@@ -11,7 +11,7 @@ use Rattle.rules.specs.Words.{EL0, EL1, physicalTrapped}
 use Rattle.rules.specs.Timers.{same, get}
 use Rattle.rules.specs.Counts.{virtual}
 use Rattle.rules.specs.Access.{accessOf}
-use Rattle.claims.specs.Desk.{Desk, Access, serve, answersTo, stateAfter}
+use Rattle.claims.specs.Desk.{Desk, Access, serve, answersTo, endState}
 
 -- Non-secure, TGE 0
 pub record Guest (s : State) : Type 0 where
@@ -68,9 +68,9 @@ OneAccess Asked desk =
 -- any sequence: the same answers, the same virtual timer in the end, and nothing else moved on either machine
 pub record SequencesAlike (desk : Desk) (s t : State) (as₁ as₂ : List Access) : Type 0 where
   pub answers : answersTo desk s as₁ ≡ answersTo desk t as₂
-  pub cntv : stateAfter desk s as₁ .timers .cntv ≡ stateAfter desk t as₂ .timers .cntv
-  pub here : OnlyCntvMoved s (stateAfter desk s as₁)
-  pub there : OnlyCntvMoved t (stateAfter desk t as₂)
+  pub cntv : endState desk s as₁ .timers .cntv ≡ endState desk t as₂ .timers .cntv
+  pub here : OnlyCntvMoved s (endState desk s as₁)
+  pub there : OnlyCntvMoved t (endState desk t as₂)
 
 -- demand 3
 abbrev pub Demand3 : Desk → Type 0

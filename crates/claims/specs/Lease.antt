@@ -21,7 +21,7 @@ use Rattle.rules.specs.Answers.{doneRead}
 use Rattle.rules.specs.Context.{impossible}
 use Rattle.rules.specs.Access.{accessOf}
 use Rattle.rules.specs.Lines.{linesOf}
-use Rattle.claims.specs.Desk.{Access, serve, stateAfter, Permitted}
+use Rattle.claims.specs.Desk.{Access, serve, endState, Permitted}
 use Rattle.claims.specs.Guests.{TrappedGuest, Alike, AllShown}
 
 -- ---- words
@@ -74,7 +74,7 @@ Armed =
     (s : State) (value control : Access) (both : List Access) →
     Takes s value control →
     InEitherOrder value control both →
-    Lease (stateAfter accessOf s both) (deadlineOf s value)
+    Lease (endState accessOf s both) (deadlineOf s value)
 
 -- on a lease that runs, a permitted write of TVAL alone takes the next one
 abbrev pub Renewed : Type 0
@@ -164,7 +164,7 @@ abbrev pub LeftAlone : Type 0
 LeftAlone =
     (s : State) (accesses : List Access) →
     NoneReachesIt s accesses →
-    (stateAfter accessOf s accesses .cntvoff ≡ s .cntvoff) × SameLease s (stateAfter accessOf s accesses)
+    (endState accessOf s accesses .cntvoff ≡ s .cntvoff) × SameLease s (endState accessOf s accesses)
 
 -- ---- 4. TVAL tells the truth
 
@@ -204,7 +204,7 @@ ByTheGuestAlone =
     TrappedGuest s →
     Alike s t →
     AllShown s t as₁ as₂ →
-    SameLease (stateAfter accessOf s as₁) (stateAfter accessOf t as₂)
+    SameLease (endState accessOf s as₁) (endState accessOf t as₂)
 
 -- ---- the claim
 
@@ -215,8 +215,8 @@ LeaseKept =
     (s : State) (value control : Access) (both accesses : List Access) →
     Takes s value control →
     InEitherOrder value control both →
-    NoneReachesIt (stateAfter accessOf s both) accesses →
-    InPlainNumbers (stateAfter accessOf (stateAfter accessOf s both) accesses) (virtualAt s (value .count)) (taken value)
+    NoneReachesIt (endState accessOf s both) accesses →
+    InPlainNumbers (endState accessOf (endState accessOf s both) accesses) (virtualAt s (value .count)) (taken value)
 
 pub record LeaseClaim : Type 0 where
   pub kept : LeaseKept

@@ -8,7 +8,7 @@ use Rattle.rules.specs.declared.state.State.{State}
 use Rattle.rules.specs.Words.{EL1, EL2}
 use Rattle.rules.specs.Access.{accessOf}
 use Rattle.rules.specs.Readings.{start}
-use Rattle.claims.specs.Desk.{Access, serve, stateAfter}
+use Rattle.claims.specs.Desk.{Access, serve, endState}
 use Rattle.claims.specs.Lease.{lineAt, taken, Takes, NoneReachesIt, Ahead, UpFrom}
 
 abbrev asked : ℕ → ℕ → ℕ → ℕ → Access
@@ -27,7 +27,7 @@ onTheWay =
     asked 0xD53BE300 EL1 0 1000 ∷ asked 0xD53BE020 EL1 0 1200 ∷ asked 0xD51CE241 EL2 77 1300 ∷ asked 0xD53BE320 EL1 0 1499 ∷ []
 
 abbrev pub begun : State
-begun = stateAfter accessOf start (value ∷ control ∷ [])
+begun = endState accessOf start (value ∷ control ∷ [])
 
 -- MSR CNTVOFF_EL2, XZR by EL2
 abbrev pub offsetMoved : Access
@@ -38,7 +38,7 @@ pub record LeaseExample : Type 0 where
   pub takes : Takes start value control
   pub alone : NoneReachesIt begun onTheWay
   pub ahead : Ahead (taken value) 500
-  pub ends : UpFrom (stateAfter accessOf begun onTheWay) 1100
+  pub ends : UpFrom (endState accessOf begun onTheWay) 1100
   -- CNTVOFF has to be left alone too: a write of it moves the end, here to physical 1100 from 1500
   pub before : lineAt begun 1100 ≡ false
   pub after : lineAt (serve accessOf begun offsetMoved .next) 1100 ≡ true

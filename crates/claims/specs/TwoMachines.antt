@@ -13,7 +13,7 @@ use Rattle.rules.specs.Values.{known}
 use Rattle.rules.specs.Answers.{doneRead, doneWrite}
 use Rattle.rules.specs.Access.{accessOf}
 use Rattle.rules.specs.Readings.{start}
-use Rattle.claims.specs.Desk.{Access, answersTo, stateAfter}
+use Rattle.claims.specs.Desk.{Access, answersTo, endState}
 use Rattle.claims.specs.Guests.{TrappedGuest, Alike, AllShown}
 
 -- CNTVOFF 0 and not 400, CNTPOFF 7 and not 0, and every timer but CNTV set to 5 and enabled
@@ -48,5 +48,5 @@ pub record TwoMachines : Type 0 where
   pub others : (u : TimerName) → same Cntv u ≡ false → get (start .timers) u ≡ get (secondMachine .timers) u → ⊥
   pub here : answersTo accessOf start (asks 1000) ≡ told
   pub there : answersTo accessOf secondMachine (asks 600) ≡ told
-  pub cntvHere : stateAfter accessOf start (asks 1000) .timers .cntv ≡ timerOf 599 false false
-  pub cntvThere : stateAfter accessOf secondMachine (asks 600) .timers .cntv ≡ timerOf 599 false false
+  pub cntvHere : endState accessOf start (asks 1000) .timers .cntv ≡ timerOf 599 false false
+  pub cntvThere : endState accessOf secondMachine (asks 600) .timers .cntv ≡ timerOf 599 false false

@@ -47,4 +47,4 @@ usedCount f s physical t = countOf (offsetSeen f) s physical t
 
 -- the count of the condition, for 'Timer met' and ISTATUS: CNTPOFF applies with offset on (our house rule)
 abbrev pub conditionCount : Bool → State → ℕ → TimerName → ℕ
-conditionCount offsetOn s physical t = countOf offsetOn s physical t
+conditionCount applies s physical t = countOf applies s physical t

@@ -76,23 +76,23 @@ abbrev pub badJournal : List ℕ → Bool
 badJournal journal = not (eqb (length journal % recordBytes) 0) || ltb limit (length journal / recordBytes)
 
 abbrev pub shortBuffer : List ℕ → List ℕ → Bool
-shortBuffer journal answers = ltb (length answers) (length journal)
+shortBuffer journal buffer = ltb (length buffer) (length journal)
 
 -- order: 7, 8; a run not refused with 7 or 8 answers 0 itself
 abbrev pub runNumber : List ℕ → List ℕ → ℕ
-runNumber journal answers = cond (badJournal journal) journalRefused (cond (shortBuffer journal answers) bufferRefused done)
+runNumber journal buffer = cond (badJournal journal) journalRefused (cond (shortBuffer journal buffer) bufferRefused done)
 
 -- how many records are served: a refused run serves none
 abbrev pub turns : List ℕ → List ℕ → ℕ
-turns journal answers =
-    cond (badJournal journal) 0 (cond (shortBuffer journal answers) 0 (length journal / recordBytes))
+turns journal buffer =
+    cond (badJournal journal) 0 (cond (shortBuffer journal buffer) 0 (length journal / recordBytes))
 
 -- the run: its number and the state after it
 unfoldable pub runOf : State → List ℕ → List ℕ → Run
-runOf s journal answers =
-    record { number = runNumber journal answers; next = stateAfter s journal (turns journal answers) }
+runOf s journal buffer =
+    record { number = runNumber journal buffer; next = stateAfter s journal (turns journal buffer) }
 
 -- and the lent buffer after it: the answers, then the bytes that were there
 unfoldable pub bufferAfter : State → List ℕ → List ℕ → List ℕ
-bufferAfter s journal answers =
-    answersOf s journal (turns journal answers) ++ drop (turns journal answers * recordBytes) answers
+bufferAfter s journal buffer =
+    answersOf s journal (turns journal buffer) ++ drop (turns journal buffer * recordBytes) buffer
