@@ -25,7 +25,7 @@ enum todo {
     INJECT_TRAP_TO_EL1,
     TRAP_TO_EL2, /* for the guest's own EL2, or the hypervisor's policy where the guest has none */
     NOT_A_TIMER, /* for another of the hypervisor's devices */
-    BROKEN_GUEST, /* the state or the level cannot be: the hypervisor's own mistake */
+    IMPOSSIBLE_CONTEXT, /* the state or the level cannot be: the hypervisor's own mistake */
 };
 
 enum { XZR = 31 };
@@ -58,7 +58,7 @@ static enum todo handle(struct guest *guest, uint32_t iss, uint8_t level, uint64
     case ELSTERKABEL_NOT_A_TIMER_ACCESS:
         return NOT_A_TIMER;
     default:
-        return BROKEN_GUEST;
+        return IMPOSSIBLE_CONTEXT;
     }
 }
 

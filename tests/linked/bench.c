@@ -63,9 +63,9 @@ int main(int argc, char **argv) {
     const uint8_t *journal = input + IMAGE_BYTES;
     length -= IMAGE_BYTES;
 
-    struct elsterkabel_state state, start;
+    struct elsterkabel_state state = {0};
     read_image(input, &state);
-    start = state;
+    struct elsterkabel_state start = state;
     bool served = elsterkabel_run_in(&state, journal, length, answers, sizeof answers) == ELSTERKABEL_DONE;
     if (served && by_access) {
         state = start;

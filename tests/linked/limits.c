@@ -8,7 +8,8 @@
 
 enum { RECORD = ELSTERKABEL_RECORD_BYTES, LIMIT = ELSTERKABEL_RECORD_LIMIT, UNTOUCHED = 0xEE };
 
-enum { MRS_CNTVCT = 0xD53BE040, MSR_CNTV_TVAL_X1 = 0xD51BE301 };
+static const uint32_t MRS_CNTVCT = 0xD53BE040;
+static const uint32_t MSR_CNTV_TVAL_X1 = 0xD51BE301;
 
 static int failed;
 
@@ -62,7 +63,7 @@ static uint8_t run(struct elsterkabel_state *state, size_t journal_length, size_
     return elsterkabel_run_in(state, journal, journal_length, answers, answers_length);
 }
 
-static bool refused(uint8_t number, size_t journal_length, size_t answers_length) {
+static bool moves_nothing(uint8_t number, size_t journal_length, size_t answers_length) {
     struct elsterkabel_state state = start();
     return run(&state, journal_length, answers_length) == number && same_state(state, start()) && untouched_from(0);
 }
@@ -90,15 +91,17 @@ static void a_run(void) {
     check("its answer is written", memcmp(answers, ANSWER_4, RECORD) == 0);
     check("the bytes after it stay", untouched_from(RECORD));
     check("the state is the run's", same_state(state, moved));
-    check("an empty journal and an empty buffer give 0, and nothing moves", refused(ELSTERKABEL_DONE, 0, 0));
+    check("an empty journal and an empty buffer give 0, and nothing moves", moves_nothing(ELSTERKABEL_DONE, 0, 0));
 }
 
 static void refusals(void) {
-    check("a ragged journal gets 7, and nothing moves", refused(ELSTERKABEL_BAD_JOURNAL, RECORD + 1, sizeof answers));
-    check("1,025 records get 7, and nothing moves", refused(ELSTERKABEL_BAD_JOURNAL, sizeof journal, sizeof answers));
+    check("a ragged journal gets 7, and nothing moves",
+          moves_nothing(ELSTERKABEL_BAD_JOURNAL, RECORD + 1, sizeof answers));
+    check("1,025 records get 7, and nothing moves",
+          moves_nothing(ELSTERKABEL_BAD_JOURNAL, sizeof journal, sizeof answers));
     check("a buffer one byte short gets 8, and nothing moves",
-          refused(ELSTERKABEL_BUFFER_TOO_SHORT, 2 * RECORD, 2 * RECORD - 1));
-    check("7 comes before 8", refused(ELSTERKABEL_BAD_JOURNAL, RECORD + 1, 0));
+          moves_nothing(ELSTERKABEL_BUFFER_TOO_SHORT, 2 * RECORD, 2 * RECORD - 1));
+    check("7 comes before 8", moves_nothing(ELSTERKABEL_BAD_JOURNAL, RECORD + 1, 0));
 }
 
 int main(void) {

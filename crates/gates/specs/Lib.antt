@@ -1,1 +1,2 @@
+-- What the contracts cite beside the rulebook.
 pub mod Redirect

@@ -16,7 +16,6 @@ use rules::Outcome;
 use rules::Record;
 use rules::State;
 
-// A reserved bit is set.
 const RESERVED_BIT_SET: u8 = 6;
 
 pub(crate) fn read_record(journal: &[u8], at: usize) -> Record

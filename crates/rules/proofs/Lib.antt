@@ -1,3 +1,4 @@
+-- The readings, and laws of the definitions that other rooms cite.
 pub mod Journal
 pub mod Lease
 pub mod Readings
