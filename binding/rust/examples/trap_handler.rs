@@ -27,7 +27,7 @@ enum Todo {
     /// For another of the hypervisor's devices.
     NotATimer,
     /// The state or the level cannot be: the hypervisor's own mistake.
-    BrokenGuest,
+    ImpossibleContext,
 }
 
 const EL1: u8 = 1;
@@ -76,7 +76,7 @@ impl Guest {
             number::TRAP_TO_EL1 => Todo::InjectTrapToEl1,
             number::TRAP_TO_EL2 => Todo::TrapToEl2,
             number::NOT_A_TIMER_ACCESS => Todo::NotATimer,
-            _ => Todo::BrokenGuest,
+            _ => Todo::ImpossibleContext,
         }
     }
 

@@ -2,6 +2,9 @@
 
 use crate::types::{Answer, Lines, State};
 
+// Why what comes back is sound, for all three: the signatures are those of binding/c/elsterkabel.h,
+// the tests hold the layout of the types against it, and each bool that is returned or stored is 0
+// or 1, since the language of the archive's source has no other.
 extern "C" {
     fn elsterkabel_access_in(
         state: *mut State,
@@ -30,7 +33,8 @@ impl State {
     pub fn access(&mut self, word: u32, level: u8, operand: u64, count: u64) -> Answer {
         // SAFETY: the pointer comes from a reference, so it is not null and is aligned, and the
         // state behind it is readable and writable, whole. It is the call's one pointer. The
-        // reference is exclusive, so no other thread touches the state. A Rust bool is 0 or 1.
+        // reference is exclusive, so no other thread touches the state. A Rust bool is 0 or 1. The
+        // answer and the state that is left are sound as the declarations say.
         unsafe { elsterkabel_access_in(self, word, level, operand, count) }
     }
 
@@ -44,7 +48,8 @@ impl State {
         // of an empty slice too. The state and the buffer are readable and writable, the journal
         // is readable, each for the whole length that goes with it. The state and the buffer are
         // borrowed exclusively, so no two of the three overlap and no other thread touches those
-        // two; nor does one write the journal while it is borrowed. A Rust bool is 0 or 1.
+        // two; nor does one write the journal while it is borrowed. A Rust bool is 0 or 1. The state
+        // that is left is sound as the declarations say; any byte is sound in the buffer.
         unsafe {
             elsterkabel_run_in(
                 self,
@@ -61,7 +66,8 @@ impl State {
     #[must_use]
     pub fn lines(&self, count: u64) -> Lines {
         // SAFETY: the state goes by value, so there is no pointer that could be null, misaligned,
-        // too short, shared with another or touched by a thread. A Rust bool is 0 or 1.
+        // too short, shared with another or touched by a thread. A Rust bool is 0 or 1. The lines
+        // that come back are sound as the declarations say.
         unsafe { elsterkabel_lines(*self, count) }
     }
 }

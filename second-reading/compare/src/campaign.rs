@@ -30,7 +30,8 @@ pub struct Campaign {
 }
 
 impl Captured {
-    fn of(program: &Program, seed: u64) -> Result<Captured, String> {
+    /// Runs the case of a seed.
+    pub fn of(program: &Program, seed: u64) -> Result<Captured, String> {
         let case = Case::of(seed);
         let ran = program
             .run(&case.input())
@@ -40,7 +41,7 @@ impl Captured {
 
     /// How the output differs from the expected one, in words. A program that did not end well
     /// differs whatever it wrote.
-    fn difference(&self, expected: Output) -> Option<String> {
+    pub fn difference(&self, expected: Output) -> Option<String> {
         let told = explain(&self.case, expected, self.ran.by_program());
         if told.is_none() && self.ran.status.success() {
             return None;

@@ -19,7 +19,7 @@ mod states;
 pub use campaign::{Campaign, Captured};
 pub use case::{Case, Kind, KINDS};
 pub use coverage::coverage_table;
-pub use difference::{explain, Output};
+pub use difference::Output;
 pub use expected::{expected, Expected};
 pub use harness::{ended, Least};
 pub use program::{Program, Ran};

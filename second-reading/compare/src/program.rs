@@ -6,14 +6,17 @@ use std::fs::File;
 use std::io::{self, Read, Write};
 use std::path::{Path, PathBuf};
 use std::process::{Child, Command, ExitStatus, Stdio};
-use std::sync::mpsc;
+use std::sync::mpsc::{self, Receiver};
 use std::thread;
-use std::time::Duration;
+use std::time::{Duration, Instant};
 
 use crate::difference::Output;
 
 /// A program that has not ended by then never ends.
 const PATIENCE: Duration = Duration::from_secs(60);
+
+/// Short beside the time that a program takes.
+const BETWEEN_LOOKS: Duration = Duration::from_millis(1);
 
 /// Machine numbers of an ELF header.
 const X86_64: u16 = 62;
@@ -82,8 +85,8 @@ impl Program {
         Program::on_this_machine(&path, machine, env::consts::ARCH)
     }
 
-    /// The one place that decides how a program runs: as it is on a machine of its own kind,
-    /// and an x86-64 program on an Arm machine under the kit's emulator.
+    /// The one place in Rust that decides how a program runs: as it is on a machine of its own
+    /// kind, and an x86-64 program on an Arm machine under the kit's emulator.
     fn on_this_machine(path: &Path, machine: u16, here: &str) -> Result<Vec<OsString>, String> {
         match (machine, here) {
             (X86_64, "x86_64") | (AARCH64, "aarch64") => Ok(vec![path.into()]),
@@ -117,9 +120,14 @@ impl Program {
         ])
     }
 
-    /// Gives the program its input and waits for its output.
+    /// Gives the program its input and waits for its output and its end.
     pub fn run(&self, input: &[u8]) -> Result<Ran, String> {
+        self.run_within(PATIENCE, input)
+    }
+
+    fn run_within(&self, patience: Duration, input: &[u8]) -> Result<Ran, String> {
         let said = |error: io::Error| format!("{:?}: {error}", self.command);
+        let limit = Instant::now() + patience;
         let mut child = Command::new(&self.command[0])
             .args(&self.command[1..])
             .stdin(Stdio::piped())
@@ -127,43 +135,75 @@ impl Program {
             .stderr(Stdio::piped())
             .spawn()
             .map_err(said)?;
-        let output = converse(&mut child, input)?;
-        let mut errors = String::new();
-        if let Some(mut stderr) = child.stderr.take() {
-            stderr.read_to_string(&mut errors).map_err(said)?;
+        match converse(&mut child, input, limit) {
+            Ok((output, errors, status)) => Ok(Ran {
+                by: self.name.clone(),
+                output,
+                errors: String::from_utf8_lossy(&errors).into_owned(),
+                status,
+            }),
+            Err(error) => {
+                let killed = child.kill().and_then(|()| child.wait());
+                Err(format!("{}; killed: {killed:?}", said(error)))
+            }
         }
-        let status = child.wait().map_err(said)?;
-        Ok(Ran {
-            by: self.name.clone(),
-            output,
-            errors,
-            status,
-        })
     }
 }
 
-/// Writes and reads at the same time, as either pipe may fill up. A program may end before it
-/// has taken all its input, so a failing write is no failure yet.
-fn converse(child: &mut Child, input: &[u8]) -> Result<Vec<u8>, String> {
-    let (Some(mut stdin), Some(mut stdout)) = (child.stdin.take(), child.stdout.take()) else {
-        return Err("the program's pipes are missing".to_string());
+/// Standard output, standard error and the status, if all three are there by the limit. Each pipe
+/// has a thread of its own, as any of them may fill up while the program is busy with another.
+fn converse(
+    child: &mut Child,
+    input: &[u8],
+    limit: Instant,
+) -> io::Result<(Vec<u8>, Vec<u8>, ExitStatus)> {
+    let pipes = (child.stdin.take(), child.stdout.take(), child.stderr.take());
+    let (Some(stdin), Some(stdout), Some(stderr)) = pipes else {
+        return Err(io::Error::other("the program's pipes are missing"));
     };
+    feed(stdin, input.to_vec());
+    let (output, errors) = (drain(stdout), drain(stderr));
+    let output = drained_by(limit, &output)?;
+    let errors = drained_by(limit, &errors)?;
+    Ok((output, errors, ended_by(limit, child)?))
+}
+
+/// A program may end before it has taken all its input, so a failing write is no failure.
+fn feed(mut pipe: impl Write + Send + 'static, input: Vec<u8>) {
+    thread::spawn(move || pipe.write_all(&input));
+}
+
+/// Reads a pipe to its end. The thread is never joined, since a process that the program started
+/// may hold the pipe open after the program itself was killed.
+fn drain(mut pipe: impl Read + Send + 'static) -> Receiver<io::Result<Vec<u8>>> {
     let (done, told) = mpsc::channel();
-    thread::scope(|scope| {
-        scope.spawn(move || stdin.write_all(input));
-        scope.spawn(move || {
-            let mut output = Vec::new();
-            let read = stdout.read_to_end(&mut output).map(|_| output);
-            done.send(read)
-        });
-        match told.recv_timeout(PATIENCE) {
-            Ok(read) => read.map_err(|error| format!("reading the program's output: {error}")),
-            Err(_) => {
-                let ended = child.kill().and_then(|()| child.wait());
-                Err(format!("the program did not end by itself: {ended:?}"))
-            }
+    thread::spawn(move || {
+        let mut bytes = Vec::new();
+        let read = pipe.read_to_end(&mut bytes).map(|_| bytes);
+        done.send(read)
+    });
+    told
+}
+
+fn drained_by(limit: Instant, told: &Receiver<io::Result<Vec<u8>>>) -> io::Result<Vec<u8>> {
+    let left = limit.saturating_duration_since(Instant::now());
+    told.recv_timeout(left).unwrap_or_else(|_| Err(too_late()))
+}
+
+/// Looks again and again, since the standard library has no wait with a limit. It is asked once
+/// the pipes have ended, when nearly every program is at its end too.
+fn ended_by(limit: Instant, child: &mut Child) -> io::Result<ExitStatus> {
+    loop {
+        match child.try_wait()? {
+            Some(status) => return Ok(status),
+            None if Instant::now() >= limit => return Err(too_late()),
+            None => thread::sleep(BETWEEN_LOOKS),
         }
-    })
+    }
+}
+
+fn too_late() -> io::Error {
+    io::Error::new(io::ErrorKind::TimedOut, "did not end by itself in time")
 }
 
 /// The folder that holds the workspace of this package.
@@ -202,6 +242,52 @@ fn kit() -> Result<PathBuf, String> {
 #[cfg(test)]
 mod tests {
     use super::*;
+
+    const A_MOMENT: Duration = Duration::from_millis(200);
+
+    fn shell(script: &str) -> Program {
+        Program {
+            name: "sh".to_string(),
+            command: ["/bin/sh", "-c", script].map(OsString::from).to_vec(),
+        }
+    }
+
+    #[test]
+    fn a_program_may_write_much_on_both_pipes_and_take_no_input() {
+        let much = "head -c 1000000 /dev/zero";
+        let program = shell(&format!("{much} >&2; {much}; {much} >&2; exit 3"));
+        let ran = program.run(&[7; 1_000_000]).expect("it ends by itself");
+        assert_eq!(
+            (ran.errors.len(), ran.output.len(), ran.status.code()),
+            (2_000_000, 1_000_000, Some(3))
+        );
+    }
+
+    #[test]
+    fn a_program_may_take_a_while_to_end_after_its_output() {
+        let program = shell("cat; exec >&- 2>&-; sleep 0.1; exit 3");
+        let ran = program.run(b"text").expect("it ends by itself");
+        assert_eq!(
+            (ran.output.as_slice(), ran.status.code()),
+            (&b"text"[..], Some(3))
+        );
+    }
+
+    #[test]
+    fn a_program_that_does_not_end_is_ended_whatever_it_closed() {
+        for script in [
+            "exec sleep 20",
+            "exec >&-; exec sleep 20",
+            "exec >&- 2>&-; exec sleep 20",
+            "sleep 20; echo a process of its own holds the pipes",
+        ] {
+            let begun = Instant::now();
+            let error = shell(script).run_within(A_MOMENT, b"").expect_err(script);
+            assert!(error.contains("did not end by itself"), "{script}: {error}");
+            assert!(error.contains("killed: Ok"), "{script}: {error}");
+            assert!(begun.elapsed() < Duration::from_secs(10), "{script}");
+        }
+    }
 
     #[test]
     fn a_program_runs_as_it_is_on_its_own_machine() {

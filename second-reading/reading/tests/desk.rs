@@ -1,6 +1,6 @@
 //! Refusals, their order, and the edges of the journal.
 
-use reading::{Access, Clause, Reading, Record, Slip, State, RECORD_BYTES, RECORD_LIMIT};
+use reading::{Access, Answer, Clause, Reading, Record, Slip, State, RECORD_BYTES, RECORD_LIMIT};
 
 const CNTVCT: u32 = 0xD53B_E040;
 const NO_NAME: u32 = 0xD53B_E000;
@@ -39,8 +39,13 @@ fn reserved(word: u32, reserved: u32) -> Record {
 fn first_number(state: State, record: Record) -> u8 {
     let mut answers = [0; RECORD_BYTES];
     assert_eq!(Reading::new(state).run(&record.pack(), &mut answers), 0);
-    assert_eq!(answers[0] & 0xF, 0, "Rt 0 in a refusal");
-    answers[0] >> 4
+    let answer = Answer::unpack(&answers);
+    let number_alone = Answer {
+        number: answer.number,
+        ..Answer::default()
+    };
+    assert_eq!(answer, number_alone, "Rt, value and mask 0 in a refusal");
+    answer.number
 }
 
 #[test]

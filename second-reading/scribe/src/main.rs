@@ -19,8 +19,9 @@ usage:
           EL1 MSR CNTV_TVAL_EL0, X1 = 0xFFFFFFFF @ 1000
           WORD 0xD53BE000 EL1 = 0 @ 1000
       that is: level, instruction, `=` the operand lent, `@` the physical count.
-      Rt 31 is XZR. Numbers are decimal or 0x. A record may end in
-      `RESERVED bits`. `#` begins a comment.
+      The `=` part may be left out of an MRS, of an MSR from XZR and of a WORD
+      line; the operand is 0 then. Rt 31 is XZR. Numbers are decimal or 0x. A
+      record may end in `RESERVED bits`. `#` begins a comment.
 
   scribe show [--journal FILE] [--answers FILE] [--state FILE]
       Prints them in words: a journal and its answers side by side, then the

@@ -8,8 +8,8 @@
 //! WORD 0xD53BE000 EL1 = 0 @ 1000 RESERVED 0x1
 //! ```
 //!
-//! `= operand` may be left out of a read and of a write from XZR; `RESERVED bits` sets the
-//! reserved bits of any record.
+//! `= operand` may be left out of a read, of a write from XZR and of a `WORD` line, and is 0 then;
+//! `RESERVED bits` sets the reserved bits of any record.
 
 use std::fmt;
 

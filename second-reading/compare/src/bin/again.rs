@@ -5,7 +5,7 @@ use std::fs;
 use std::path::Path;
 use std::process::ExitCode;
 
-use compare::{expected, explain, parse_seed, Case, Program};
+use compare::{expected, parse_seed, Captured, Case, Program};
 use reading::Slip;
 
 const HELP: &str = "\
@@ -26,14 +26,21 @@ fn main() -> ExitCode {
             print!("{HELP}");
             return ExitCode::SUCCESS;
         }
-        [seed] => (seed, None),
-        [seed, folder] => (seed, Some(Path::new(folder))),
-        _ => {
-            eprint!("{HELP}");
-            return ExitCode::from(2);
-        }
+        [seed] => (parse_seed(seed), None),
+        [seed, folder] => (parse_seed(seed), Some(Path::new(folder))),
+        _ => (Err("a seed is due, and at most a folder".to_string()), None),
     };
-    match again(seed, folder) {
+    match seed {
+        Ok(seed) => told(again(seed, folder)),
+        Err(error) => {
+            eprintln!("again: {error}; see again --help");
+            ExitCode::from(2)
+        }
+    }
+}
+
+fn told(difference: Result<Option<String>, String>) -> ExitCode {
+    match difference {
         Ok(None) => {
             println!("no difference");
             ExitCode::SUCCESS
@@ -49,21 +56,17 @@ fn main() -> ExitCode {
     }
 }
 
-fn again(seed: &str, folder: Option<&Path>) -> Result<Option<String>, String> {
-    let case = Case::of(parse_seed(seed)?);
+fn again(seed: u64, folder: Option<&Path>) -> Result<Option<String>, String> {
+    let captured = Captured::of(&Program::probe()?, seed)?;
+    let (case, ran) = (&captured.case, &captured.ran);
     let records = case.records().len();
-    println!(
-        "case {:#018X} ({:?}), {records} records",
-        case.seed, case.kind
-    );
-    let expected = expected(&case, Slip::None);
-    let ran = Program::probe()?.run(&case.input())?;
-    println!("probe ended with {}; {}", ran.status, ran.errors.trim());
+    println!("case {seed:#018X} ({:?}), {records} records", case.kind);
+    let expected = expected(case, Slip::None);
     if let Some(folder) = folder {
-        save(folder, &case, &expected.output, &ran.output)
+        save(folder, case, &expected.output, &ran.output)
             .map_err(|error| format!("{}: {error}", folder.display()))?;
     }
-    Ok(explain(&case, expected.by_reading(), ran.by_program()))
+    Ok(captured.difference(expected.by_reading()))
 }
 
 fn save(folder: &Path, case: &Case, expected: &[u8], found: &[u8]) -> std::io::Result<()> {
