@@ -1,11 +1,12 @@
--- The impostors stand still and answer alike, so demand 3 admits them; a reading from the bench tells each from the rules.
+-- Three impostors stand still and answer alike, and the fourth copies what is alike, so demand 3 admits them; a reading from
+-- the bench tells each from the rules.
 -- And a guest that is trapped by halves reads the physical count, or moves CNTP.
 -- Assumes nothing.
-use Prim.Native.Nat.{ℕ}
+use Prim.Native.Nat.{ℕ, zero, suc}
 use mathlib.Core.Bool.{true, false}
-use mathlib.Core.List.{List, map}
+use mathlib.Core.List.{List, [], _∷_, _++_, map}
 use mathlib.Core.Logic.{inr}
-use mathlib.Core.Path.{_≡_, refl, ap, _∙_}
+use mathlib.Core.Path.{_≡_, refl, ap, ap₂, _∙_}
 use native.Mathlib.Omega.{arith}
 use lib.ListN.{getD}
 use Rattle.rules.specs.declared.answer.Answer.{Answer}
@@ -16,19 +17,22 @@ use Rattle.rules.specs.declared.state.TimerName.{TimerName}
 use Rattle.rules.specs.Words.{EL1, factsOf}
 use Rattle.rules.specs.Names.{nameOf, nameTable, rtOf}
 use Rattle.rules.specs.Cntp.{cntp}
-use Rattle.rules.specs.Counters.{cntpct}
+use Rattle.rules.specs.Counters.{cntpct, cntvct}
 use Rattle.rules.specs.Verdicts.{verdictOf}
 use Rattle.rules.specs.Counts.{countOf}
 use Rattle.rules.specs.Values.{known, readOf, writeTimer, writeOf}
 use Rattle.rules.specs.Answers.{doneRead, undefinedAt, asBefore}
 use Rattle.rules.specs.Context.{impossible, impossibleAt}
 use Rattle.rules.specs.Access.{permitted, ruled, served, accessOf}
+use Rattle.rules.specs.Journal.{recordAt, recordServed, answerBytes, stateAfter, answersOf}
 use Rattle.rules.specs.Readings.{start, Reading, readings, asked}
 use Rattle.rules.proofs.Readings.{readings-hold}
 use Rattle.claims.specs.Desk.{Access}
 use Rattle.claims.specs.Guests.{Guest, TrappedGuest, Alike, SameShown, OneAlike, OneAccess, Demand3}
-use Rattle.claims.specs.Impostors.{undefinedToAll, sixHundredToAll, neverStores, ShutOutByDemand2, ImpostorsClaim, TimerTrapped, CounterTrapped, TrappedIsNeeded}
+use Rattle.claims.specs.Journals.{RecordsAlike, JournalDemand3}
+use Rattle.claims.specs.Impostors.{undefinedToAll, sixHundredToAll, neverStores, ShutOutByDemand2, firstServed, copiesOnward, RunShutOutByDemand2, ImpostorsClaim, TimerTrapped, CounterTrapped, TrappedIsNeeded}
 use Rattle.claims.proofs.Guests.{stayed, one-access, any-sequence}
+use Rattle.claims.proofs.Journals.{ServedAlike, served-alike}
 
 -- a desk that never moves the state, and answers alike where it should
 stands-still : (answerOf : State → ℕ → ℕ → ℕ → ℕ → Answer) → ((s t : State) (a b : Access) → TrappedGuest s → Alike s t → SameShown s t a b → answerOf s (a .word) (a .level) (a .operand) (a .count) ≡ answerOf t (b .word) (b .level) (b .operand) (b .count)) → Demand3 (λ s word level operand count. asBefore s (answerOf s word level operand count))
@@ -63,9 +67,48 @@ never-stores =
       shutOut = λ follows. let no : _≡_ {A = ℕ} 0 599 = ap (λ (o : Outcome). o .next .timers .cntv .cval) (follows start 0xD51BE301 EL1 0xFFFFFFFF 1000 ∙ bench 4) in omega arith;
     }
 
+-- ---- the fourth
+
+-- alike on the first record, and so on what is copied from it
+copied-alike : JournalDemand3 copiesOnward
+copied-alike s t journal other zero g e h =
+    record { answers = refl; cntv = e .cntv; here = stayed s; there = stayed t }
+copied-alike s t journal other (suc n) g e h =
+    let before : RecordsAlike copiesOnward s t journal other n = copied-alike s t journal other n g e (λ i l. h i (omega arith)) in
+    let first : ServedAlike s t (firstServed s journal) (firstServed t other) = served-alike s t g e (recordAt journal 0) (recordAt other 0) (h 0 (omega arith)) in
+    record {
+      answers = ap₂ (λ (front more : List ℕ). front ++ more) (before .answers) (ap answerBytes (first .answer));
+      cntv = first .cntv;
+      here = first .here;
+      there = first .there;
+    }
+
+-- readings 1 and 2, as document 01 has them in bytes: a record is a word and what follows it
+abbrev at-el1-count-1000 : List ℕ
+at-el1-count-1000 =
+    0x40 ∷ 0 ∷ 0 ∷ 0 ∷ 0 ∷ 0 ∷ 0 ∷ 0 ∷ 0 ∷ 0 ∷ 0 ∷ 0 ∷ 0 ∷ 0 ∷ 0 ∷ 0 ∷ 0 ∷ 0 ∷ 0x03 ∷ 0xE8 ∷ []
+
+abbrev two-readings : List ℕ
+two-readings =
+    (0xD5 ∷ 0x3B ∷ 0xE0 ∷ 0x40 ∷ at-el1-count-1000) ++ (0xD5 ∷ 0x3B ∷ 0xE0 ∷ 0x20 ∷ at-el1-count-1000)
+
+-- the second is trapped to EL2, and its answer begins with 0x30, which no copy of 600 does
+copies-onward : RunShutOutByDemand2 copiesOnward
+unfolding factsOf nameOf nameTable cntvct cntpct verdictOf readOf impossible impossibleAt permitted ruled served accessOf recordAt recordServed answerBytes stateAfter answersOf
+copies-onward =
+    record {
+      admitted = copied-alike;
+      shutOut = λ follows. let no : _≡_ {A = ℕ} 0 0x30 = ap (λ (l : List ℕ). getD l 24 0) (follows start two-readings 2) in omega arith;
+    }
+
 pub impostors-claim : ImpostorsClaim
 impostors-claim =
-    record { undefinedToAll = undefined-to-all; sixHundredToAll = six-hundred-to-all; neverStores = never-stores }
+    record {
+      undefinedToAll = undefined-to-all;
+      sixHundredToAll = six-hundred-to-all;
+      neverStores = never-stores;
+      copiesOnward = copies-onward;
+    }
 
 -- ---- a guest that is trapped by halves
 

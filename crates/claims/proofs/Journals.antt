@@ -17,15 +17,15 @@ use Rattle.rules.specs.Access.{accessOf}
 use Rattle.rules.specs.Journal.{recordBytes, recordAt, recordServed, answerBytes, stateAfter, answersOf, runNumber, turns, runOf, bufferAfter}
 use Rattle.rules.proofs.Journal.{answers-length}
 use Rattle.claims.specs.Guests.{TrappedGuest, Alike, OnlyCntvMoved, OneAlike}
-use Rattle.claims.specs.Journals.{accessIn, SameRecord, JournalsShown, RecordsAlike, RunsAlike, JournalClaim}
+use Rattle.claims.specs.Journals.{accessIn, SameRecord, JournalsShown, byTheRules, RecordsAlike, JournalDemand3, RunsAlike, JournalClaim}
 use Rattle.claims.proofs.Guests.{stayed, moved-on, still-trapped, shown-still, alike-still, one-access}
 
 -- what one record leaves on two machines
-record ServedAlike (s t : State) (x y : Outcome) : Type 0 where
-  answer : x .answer ≡ y .answer
-  cntv : x .next .timers .cntv ≡ y .next .timers .cntv
-  here : OnlyCntvMoved s (x .next)
-  there : OnlyCntvMoved t (y .next)
+pub record ServedAlike (s t : State) (x y : Outcome) : Type 0 where
+  pub answer : x .answer ≡ y .answer
+  pub cntv : x .next .timers .cntv ≡ y .next .timers .cntv
+  pub here : OnlyCntvMoved s (x .next)
+  pub there : OnlyCntvMoved t (y .next)
 
 module _ (s t : State) (g : TrappedGuest s) (e : Alike s t) where
   by-reserved : (r q : Record) → SameRecord s t r q → (b : Bool) → eqb (r .reserved) 0 ≡ b → eqb (q .reserved) 0 ≡ b → ServedAlike s t (recordServed s r) (recordServed t q)
@@ -36,16 +36,16 @@ module _ (s t : State) (g : TrappedGuest s) (e : Alike s t) where
   by-reserved r q h false p o =
       rw (p, o) (record { answer = refl; cntv = e .cntv; here = stayed s; there = stayed t })
 
-  served-alike : (r q : Record) → SameRecord s t r q → ServedAlike s t (recordServed s r) (recordServed t q)
+  pub served-alike : (r q : Record) → SameRecord s t r q → ServedAlike s t (recordServed s r) (recordServed t q)
   served-alike r q h =
       by-reserved r q h (eqb (q .reserved) 0) (ap (λ (x : ℕ). eqb x 0) (h .reserved)) refl
 
-records-alike : (s t : State) (journal other : List ℕ) (n : ℕ) → TrappedGuest s → Alike s t → JournalsShown s t journal other n → RecordsAlike s t journal other n
+records-alike : JournalDemand3 byTheRules
 unfolding stateAfter answersOf
 records-alike s t journal other zero g e h =
     record { answers = refl; cntv = e .cntv; here = stayed s; there = stayed t }
 records-alike s t journal other (suc n) g e h =
-    let before : RecordsAlike s t journal other n = records-alike s t journal other n g e (λ i l. h i (omega arith)) in
+    let before : RecordsAlike byTheRules s t journal other n = records-alike s t journal other n g e (λ i l. h i (omega arith)) in
     let m : State = stateAfter s journal n in
     let k : State = stateAfter t other n in
     let r : Record = recordAt journal (n * recordBytes) in
@@ -74,7 +74,7 @@ unfolding runOf bufferAfter
 runs-alike s t journal other answers buffer g e j a h =
     let n : ℕ = turns journal answers in
     let as-many : turns other buffer ≡ n = sym (same-turns journal other answers buffer j a) in
-    let all : RecordsAlike s t journal other n = records-alike s t journal other n g e h in
+    let all : RecordsAlike byTheRules s t journal other n = records-alike s t journal other n g e h in
     record {
       number = same-number journal other answers buffer j a;
       answered = rw as-many (answers-in-front s journal _ n ∙ all .answers ∙ sym (answers-in-front t other _ n));

@@ -23,12 +23,29 @@ abbrev pub JournalsShown : State → State → List ℕ → List ℕ → ℕ →
 JournalsShown s t journal other n =
     (i : ℕ) → i < n → SameRecord s t (recordAt journal (i * recordBytes)) (recordAt other (i * recordBytes))
 
+-- what serves the first n records of a journal: their answer bytes, and the state after them
+pub record Server : Type 0 where
+  pub answers : State → List ℕ → ℕ → List ℕ
+  pub state : State → List ℕ → ℕ → State
+
+abbrev pub byTheRules : Server
+byTheRules = record { answers = answersOf; state = stateAfter }
+
 -- after n records: the same answer bytes, the same virtual timer, and nothing else moved on either machine
-pub record RecordsAlike (s t : State) (journal other : List ℕ) (n : ℕ) : Type 0 where
-  pub answers : answersOf s journal n ≡ answersOf t other n
-  pub cntv : stateAfter s journal n .timers .cntv ≡ stateAfter t other n .timers .cntv
-  pub here : OnlyCntvMoved s (stateAfter s journal n)
-  pub there : OnlyCntvMoved t (stateAfter t other n)
+pub record RecordsAlike (server : Server) (s t : State) (journal other : List ℕ) (n : ℕ) : Type 0 where
+  pub answers : server .answers s journal n ≡ server .answers t other n
+  pub cntv : server .state s journal n .timers .cntv ≡ server .state t other n .timers .cntv
+  pub here : OnlyCntvMoved s (server .state s journal n)
+  pub there : OnlyCntvMoved t (server .state t other n)
+
+-- demand 3 for any number of records
+abbrev pub JournalDemand3 : Server → Type 0
+JournalDemand3 server =
+    (s t : State) (journal other : List ℕ) (n : ℕ) →
+    TrappedGuest s →
+    Alike s t →
+    JournalsShown s t journal other n →
+    RecordsAlike server s t journal other n
 
 -- two runs: the same number; the same bytes in their buffers as far as the answers go, and to the end where they lent the
 -- same; the same virtual timer, and nothing else moved on either machine
@@ -44,13 +61,7 @@ pub record RunsAlike (s t : State) (journal other answers buffer : List ℕ) : T
 
 -- the claim
 pub record JournalClaim : Type 0 where
-  -- for any number of records
-  pub records :
-      (s t : State) (journal other : List ℕ) (n : ℕ) →
-      TrappedGuest s →
-      Alike s t →
-      JournalsShown s t journal other n →
-      RecordsAlike s t journal other n
+  pub records : JournalDemand3 byTheRules
   -- journals of one length into buffers of one length: one number, and as many records served
   pub number :
       (journal other answers buffer : List ℕ) →
