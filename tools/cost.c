@@ -3,7 +3,6 @@
 #include "elsterkabel.h"
 
 #include <stdio.h>
-#include <string.h>
 #include <time.h>
 
 enum { ROUNDS = 9, CALLS = 1000000, RUNS = 1000 };

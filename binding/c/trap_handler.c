@@ -4,7 +4,7 @@
  * the number. `main` lets a guest arm its virtual timer for 50 ticks.
  *
  *     rt staticlib lent
- *     cc -Ibinding/c binding/c/trap_handler.c target/staticlib/liblent.a -o trap_handler
+ *     cc -Ibinding/c binding/c/trap_handler.c target/staticlib/liblent.a -o target/trap_handler
  */
 #include "elsterkabel.h"
 
