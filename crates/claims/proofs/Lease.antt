@@ -25,7 +25,7 @@ use Rattle.rules.specs.declared.verdict.Target.{Target}
 use Rattle.rules.specs.Words.{EL3, offsetOn, factsOf}
 use Rattle.rules.specs.Names.{isMrs, rtOf}
 use Rattle.rules.specs.Arithmetic.{_plus_, signed32}
-use Rattle.rules.specs.Timers.{same, put, withTimers}
+use Rattle.rules.specs.Timers.{same, timerOf, put, withTimers}
 use Rattle.rules.specs.Counts.{offsetSeen}
 use Rattle.rules.specs.Values.{raised, readTimer, writeTimer, readOf, writeOf}
 use Rattle.rules.specs.Answers.{doneRead}
@@ -33,22 +33,21 @@ use Rattle.rules.specs.Context.{impossible, impossibleAt}
 use Rattle.rules.specs.Access.{accessOf}
 use Rattle.rules.specs.Lines.{lineOf, linesOf}
 use Rattle.rules.proofs.Timers.{get-put-other}
-use Rattle.rules.proofs.Lease.{value-then-control, control-then-value, raised-at, status-at, cntv-count, ahead-from, ahead-wraps, back-from, back-wraps, left-at, left-ahead, left-over, left-back, small-signed, large-signed}
-use Rattle.claims.specs.Desk.{Access, serve, endState, Permitted}
+use Rattle.rules.proofs.Lease.{value-then-control, control-then-value, raised-at, masked-line, status-at, cntv-count, ahead-from, ahead-wraps, back-from, back-wraps, left-at, left-ahead, left-over, left-back, small-signed, large-signed}
+use Rattle.claims.specs.Desk.{Access, serve, endState, Permitted, PermittedWrite, PermittedRead, taken}
 use Rattle.claims.specs.Guests.{Alike, SequencesAlike}
-use Rattle.claims.specs.Lease.{virtualAt, lineAt, PermittedWrite, PermittedRead, taken, deadlineOf, Lease, Takes, Armed, Renewed, GivenBack, EndsAtTheDeadline, UpFrom, NotEarlyNotLate, OfTheLease, NoneReachesIt, SameLease, LeftAlone, ticksLeft, TvalTellsTheTruth, ByTheGuestAlone, LeaseKept, LeaseClaim}
+use Rattle.claims.specs.Lease.{virtualAt, lineAt, deadlineOf, Lease, Takes, Armed, Renewed, GivenBack, MaskedIsSilent, EndsAtTheDeadline, UpFrom, NotEarlyNotLate, OfTheLease, SameLease, LeftAlone, ticksLeft, TvalTellsTheTruth, ByTheGuestAlone, LeaseKept, LeaseClaim}
 use Rattle.claims.proofs.Guests.{machine, alike-still, any-sequence, one-access}
-use Rattle.claims.proofs.Refusals.{reads-move-nothing}
-use Rattle.claims.proofs.Ways.{ways, whatever-timers}
-use Rattle.claims.proofs.Writes.{writes-change-one, reads-give}
+use Rattle.claims.proofs.Kept.{all-keep}
+use Rattle.claims.proofs.Ways.{whatever-timers}
+use Rattle.claims.proofs.Writes.{timer-written, reads-give}
 
 -- ---- 1. Armed
 
 -- a permitted write to CNTV: CNTV is written at the virtual count, and the rest stands
 cntv-written : (s : State) (a : Access) (p : Part) → PermittedWrite s a (Target.Timer Cntv p) → serve accessOf s a .next ≡ withTimers s (put (s .timers) Cntv (writeTimer (s .timers .cntv) p (virtualAt s (a .count)) (taken a)))
-unfolding writeOf
 cntv-written s a p w =
-    writes-change-one s (a .word) (a .level) (a .operand) (a .count) (Target.Timer Cntv p) (w .write) (w .permitted) .next
+    timer-written s a Cntv p w
     ∙ ap (λ (v : ℕ). withTimers s (put (s .timers) Cntv (writeTimer (s .timers .cntv) p v (taken a)))) (cntv-count (offsetSeen (factsOf s (a .level))) s (a .count))
 
 -- what was permitted was on a machine that can be
@@ -129,6 +128,16 @@ unfolding writeTimer
 given-back s control physical w off =
     line-is (next s control) physical ∙ rw (still-possible s control Ctl w, cntv-after s control Ctl w, off)
 
+either-down : (b : Bool) → cond b false false ≡ false
+either-down true = refl
+either-down false = refl
+
+masked-is-silent : MaskedIsSilent
+masked-is-silent s physical masked =
+    let cntv : Timer = s .timers .cntv in
+    let down : raised cntv (virtualAt s physical) ≡ false = ap (λ (m : Bool). raised (timerOf (cntv .cval) (cntv .enable) m) (virtualAt s physical)) masked ∙ masked-line (cntv .cval) (virtualAt s physical) (cntv .enable) in
+    line-is s physical ∙ rw down (either-down (impossible s))
+
 line-of-lease : (s : State) (deadline : ℕ) → Lease s deadline → (physical : ℕ) → lineAt s physical ≡ leb deadline (virtualAt s physical)
 line-of-lease s deadline lease physical =
     line-is s physical ∙ rw (lease .possible, lease .cntv) (raised-at deadline (virtualAt s physical))
@@ -206,48 +215,26 @@ kept-on s m n p q =
       cntvoff = q .cntvoff ∙ p .cntvoff;
     }
 
-module _ (s : State) (a : Access) (none : (target : Target) → OfTheLease target → PermittedWrite s a target → ⊥) where
-  -- a write to another timer, once over that timer
-  elsewhere : (t : TimerName) (p : Part) (x : ℕ) → same t Cntv ≡ false → Kept s (writeOf (factsOf s (a .level)) s (a .count) (Target.Timer t p) x)
-  unfolding writeOf
-  elsewhere t p x other =
-      record {
-        alike = record { features = refl; controls = refl; cntv = sym (get-put-other (s .timers) t Cntv _ other) };
-        cntvoff = refl;
-      }
+-- a write to another timer, once over that timer
+by-timer : (f : Facts) (s : State) (count : ℕ) (t : TimerName) (p : Part) (x : ℕ) → (b : Bool) → same t Cntv ≡ b → (same t Cntv ≡ true → ⊥) → Kept s (writeOf f s count (Target.Timer t p) x)
+unfolding writeOf
+by-timer f s count t p x true e not-it = absurd (not-it e)
+by-timer f s count t p x false e not-it =
+    record {
+      alike = record { features = refl; controls = refl; cntv = sym (get-put-other (s .timers) t Cntv _ e) };
+      cntvoff = refl;
+    }
 
-  by-timer : (t : TimerName) (p : Part) (x : ℕ) → PermittedWrite s a (Target.Timer t p) → (b : Bool) → same t Cntv ≡ b → Kept s (writeOf (factsOf s (a .level)) s (a .count) (Target.Timer t p) x)
-  by-timer t p x w true e = absurd (none (Target.Timer t p) e w)
-  by-timer t p x w false e = elsewhere t p x e
-
-  by-target : (target : Target) → PermittedWrite s a target → (x : ℕ) → Kept s (writeOf (factsOf s (a .level)) s (a .count) target x)
-  unfolding writeOf
-  by-target Target.Cntpct w x = kept-here s
-  by-target Target.Cntvct w x = kept-here s
-  by-target Target.Cntvoff w x = absurd (none Target.Cntvoff tt w)
-  by-target (Target.Timer t p) w x = by-timer t p x w (same t Cntv) refl
-
-  by-direction : (target : Target) → Permitted s (a .word) (a .level) target → (b : Bool) → isMrs (a .word) ≡ b → Kept s (next s a)
-  by-direction target p true e =
-      subst (Kept s) (sym (reads-move-nothing s (a .word) (a .level) (a .operand) (a .count) e)) (kept-here s)
-  by-direction target p false e =
-      subst (Kept s) (sym (writes-change-one s (a .word) (a .level) (a .operand) (a .count) target e p .next))
-      (by-target target (record { write = e; permitted = p }) (taken a))
-
-  one-keeps : Kept s (next s a)
-  one-keeps =
-      ⊎-elim (λ w. subst (Kept s) (sym (ap (λ (o : Outcome). o .next) (w .2))) (kept-here s))
-      (λ w. by-direction (w .0) (w .1) (isMrs (a .word)) refl)
-      (ways s (a .word) (a .level) (a .operand) (a .count))
-
-all-keep : (s : State) (accesses : List Access) → NoneReachesIt s accesses → Kept s (endState accessOf s accesses)
-all-keep s [] none = kept-here s
-all-keep s (a ∷ rest) none =
-    kept-on s (next s a) (endState accessOf (next s a) rest) (one-keeps s a (none .0)) (all-keep (next s a) rest (none .1))
+elsewhere : (f : Facts) (s : State) (count : ℕ) (target : Target) (x : ℕ) → (OfTheLease target → ⊥) → Kept s (writeOf f s count target x)
+unfolding writeOf
+elsewhere f s count Target.Cntpct x not-it = kept-here s
+elsewhere f s count Target.Cntvct x not-it = kept-here s
+elsewhere f s count Target.Cntvoff x not-it = absurd (not-it tt)
+elsewhere f s count (Target.Timer t p) x not-it = by-timer f s count t p x (same t Cntv) refl not-it
 
 left-alone : LeftAlone
 left-alone s accesses none =
-    let kept : Kept s (endState accessOf s accesses) = all-keep s accesses none in
+    let kept : Kept s (endState accessOf s accesses) = all-keep OfTheLease Kept kept-here kept-on elsewhere s accesses none in
     (kept .cntvoff, same-lease s (endState accessOf s accesses) (kept .alike))
 
 -- ---- 4. TVAL tells the truth
@@ -287,6 +274,7 @@ lease-claim =
       armed = armed;
       renewed = renewed;
       givenBack = given-back;
+      maskedIsSilent = masked-is-silent;
       endsAtTheDeadline = ends-at-the-deadline;
       notEarlyNotLate = not-early-not-late;
       leftAlone = left-alone;

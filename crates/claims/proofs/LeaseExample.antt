@@ -24,8 +24,8 @@ use Rattle.rules.specs.Context.{impossible, impossibleAt}
 use Rattle.rules.specs.Access.{permitted, ruled, served, accessOf}
 use Rattle.rules.specs.Lines.{lineOf, linesOf}
 use Rattle.rules.specs.Readings.{start}
-use Rattle.claims.specs.Desk.{Access}
-use Rattle.claims.specs.Lease.{PermittedWrite, taken, Takes, OfTheLease, NoneReachesIt, Ahead}
+use Rattle.claims.specs.Desk.{Access, PermittedWrite, taken, NoneReaches}
+use Rattle.claims.specs.Lease.{Takes, OfTheLease, Ahead}
 use Rattle.claims.specs.LeaseExample.{value, control, onTheWay, begun, LeaseExample}
 use Rattle.claims.proofs.Lease.{lease-claim}
 
@@ -41,7 +41,7 @@ others-reach-nothing s a name elsewhere n v not-it target of w =
     not-it (subst OfTheLease there of)
 
 -- each access on the way, at whatever state those before it left
-on-the-way : NoneReachesIt begun onTheWay
+on-the-way : NoneReaches OfTheLease begun onTheWay
 unfolding factsOf nameOf nameTable verdictOf cnthp
 on-the-way = (
   reads-reach-nothing _ _ refl,

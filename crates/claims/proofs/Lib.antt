@@ -1,11 +1,14 @@
 -- The proofs of what specs/ states.
 pub mod GuestGates
+pub mod Grounds
 pub mod Guests
 pub mod Impostors
 pub mod Journals
+pub mod Kept
 pub mod Lease
 pub mod LeaseExample
-pub mod OneAnswer
+pub mod Numbers
+pub mod Offset
 pub mod ReadBack
 pub mod Refusals
 pub mod TwoMachines

@@ -3,11 +3,13 @@
 -- Assumes nothing.
 use Prim.Native.Nat.{ℕ, _-_, _^_, _<_}
 use mathlib.Core.Bool.{Bool, true, false, cond}
-use mathlib.Core.Path.{_≡_, refl, sym, ap, subst, subst₂, _∙_}
+use mathlib.Core.List.{_∷_}
+use mathlib.Core.Path.{_≡_, refl, sym, ap, subst, _∙_}
 use native.Mathlib.Omega.{arith}
 use Rattle.rules.specs.declared.answer.Value.{Value}
 use Rattle.rules.specs.declared.name.Name.{Name}
 use Rattle.rules.specs.declared.name.Name.the-variants.{Cntpct, Cntvct, Cntpctss, Cntvctss, Cntp, Cntv, Cntvoff, Cnthp, Cnthvs}
+use Rattle.rules.specs.declared.name.Part.{Part}
 use Rattle.rules.specs.declared.name.Part.the-variants.{Tval, Ctl, Cval}
 use Rattle.rules.specs.declared.state.Timer.{Timer}
 use Rattle.rules.specs.declared.state.Timers.{Timers}
@@ -16,23 +18,24 @@ use Rattle.rules.specs.declared.verdict.Verdict.{Verdict}
 use Rattle.rules.specs.declared.verdict.Verdict.the-variants.{Undefined, ToEl1, ToEl2, Reaches}
 use Rattle.rules.specs.Verdicts.{verdictOf}
 use Rattle.rules.specs.Words.{factsOf}
-use Rattle.rules.specs.Names.{isMrs, rtOf, writtenOperand}
-use Rattle.rules.specs.Timers.{get, put, withTimers}
-use Rattle.rules.specs.Values.{readTval, writeTval, readTimer, writeTimer, readOf, writeOf}
+use Rattle.rules.specs.Names.{isMrs, rtOf}
+use Rattle.rules.specs.Timers.{same, get, put, withTimers}
+use Rattle.rules.specs.Values.{readTval, writeTval, writeCtl, readTimer, writeTimer, readOf, writeOf}
 use Rattle.rules.specs.Answers.{doneRead}
 use Rattle.rules.specs.Access.{accessOf}
-use Rattle.rules.proofs.Timers.{get-put-same}
+use Rattle.rules.proofs.Timers.{get-put-same, get-put-other, part-kept}
 use Rattle.rules.proofs.Verdicts.{cntp-holds, cntv-holds, cnthp-holds, cnthvs-holds}
-use Rattle.claims.specs.Desk.{Permitted}
+use Rattle.claims.specs.Desk.{Access, serve, endState, Permitted, PermittedWrite, PermittedRead, taken}
+use Rattle.claims.proofs.Kept.{all-keep}
 use Rattle.claims.proofs.Ways.{whatever-timers}
-use Rattle.claims.proofs.Writes.{writes-change-one, reads-give}
+use Rattle.claims.proofs.Writes.{timer-written, reads-give}
 use Rattle.rules.specs.Bits.{bit}
 use Rattle.rules.specs.Arithmetic.{_plus_, _less_, signed32}
 use Rattle.rules.specs.declared.facts.Facts.{Facts}
 use Rattle.rules.specs.declared.state.State.{State}
 use Rattle.rules.specs.declared.state.TimerName.{TimerName}
 use Rattle.rules.specs.Counts.{offsetSeen, countOf, usedCount}
-use Rattle.claims.specs.ReadBack.{low32, ReadsLow, TimerReadsBack, TvalReadsBack, HasTval, ReadFollowsWrite}
+use Rattle.claims.specs.ReadBack.{low32, ReadsLow, TimerReadsBack, SameContext, TvalReadsBack, Holds, LeftAsWritten, EnabledAfterwards, HasTval, ReadFollowsWrite}
 
 takes-off : (used x : ℕ) → used < 2 ^ 64 → x < 2 ^ 64 → (used plus x) less used ≡ x
 takes-off used x h k = omega arith
@@ -77,42 +80,100 @@ count-of-other-timers applies s ts count TimerName.Cnthvs = refl
 
 -- ---- the two accesses
 
-module _ (level count : ℕ) (t : TimerName) where
-  -- the state with what a TVAL write leaves in t
-  abbrev written : State → ℕ → State
-  written s x =
-      withTimers s (put (s .timers) t (writeTval (get (s .timers) t) (usedCount (factsOf s level) s count t) x))
+module _ (t : TimerName) where
+  -- what an access at a level and a count makes of t: the count used, what a write of a part leaves, what a TVAL read gives
+  abbrev usedAt : State → ℕ → ℕ → ℕ
+  usedAt s level count = usedCount (factsOf s level) s count t
 
-  -- what a TVAL read of t gives
-  abbrev tval : State → Value
-  tval s = readTval (get (s .timers) t) (usedCount (factsOf s level) s count t)
+  abbrev left : State → Access → Part → Timer
+  left s a p = writeTimer (get (s .timers) t) p (usedAt s (a .level) (a .count)) (taken a)
 
-  write-leaves : (s : State) (word operand : ℕ) → isMrs word ≡ false → Permitted s word level (Target.Timer t Tval) → accessOf s word level operand count .next ≡ written s (writtenOperand word operand)
-  unfolding writeOf writeTimer
-  write-leaves s word operand msr p = writes-change-one s word level operand count (Target.Timer t Tval) msr p .next
+  abbrev tval : State → ℕ → ℕ → Value
+  tval s level count = readTval (get (s .timers) t) (usedAt s level count)
 
-  read-gives : (s : State) (word operand : ℕ) → isMrs word ≡ true → Permitted s word level (Target.Timer t Tval) → accessOf s word level operand count .answer ≡ doneRead (rtOf word) (tval s)
+  write-leaves : (s : State) (a : Access) (p : Part) → PermittedWrite s a (Target.Timer t p) → get (serve accessOf s a .next .timers) t ≡ left s a p
+  write-leaves s a p w =
+      ap (λ (n : State). get (n .timers) t) (timer-written s a t p w) ∙ get-put-same (s .timers) t (left s a p)
+
+  read-gives : (s : State) (a : Access) → PermittedRead s a (Target.Timer t Tval) → serve accessOf s a .answer ≡ doneRead (rtOf (a .word)) (tval s (a .level) (a .count))
   unfolding readOf readTimer
-  read-gives s word operand mrs p = reads-give s word level operand count (Target.Timer t Tval) mrs p
+  read-gives s a r =
+      reads-give s (a .word) (a .level) (a .operand) (a .count) (Target.Timer t Tval) (r .read) (r .permitted)
 
-  tval-of-written : (s : State) (x : ℕ) → count < 2 ^ 64 → get (s .timers) t .enable ≡ true → ReadsLow (tval (written s x)) x
+  -- in the same context the count used is the same
+  used-again : (s later : State) (level count : ℕ) → SameContext s later → usedAt later level count ≡ usedAt s level count
   unfolding factsOf
-  tval-of-written s x fits enabled =
-      let old : Timer = get (s .timers) t in
-      let used : ℕ = usedCount (factsOf s level) s count t in
-      let there : get (written s x .timers) t ≡ writeTval old used x = get-put-same (s .timers) t (writeTval old used x) in
-      let same : usedCount (factsOf s level) (written s x) count t ≡ used = count-of-other-timers (offsetSeen (factsOf s level)) s (written s x .timers) count t in
-      subst₂ (λ (y : Timer) (u : ℕ). ReadsLow (readTval y u) x) (sym there) (sym same)
-      (timer-reads-back old (writeTval old used x) used x (count-fits (offsetSeen (factsOf s level)) s count t fits) refl enabled)
+  used-again s later level count same =
+      ap (λ (n : State). usedAt n level count) same
+      ∙ count-of-other-timers (offsetSeen (factsOf s level)) s (later .timers) count t
+
+  tval-again : (s later : State) (w : Access) → w .count < 2 ^ 64 → SameContext s later → get (later .timers) t .cval ≡ left s w Tval .cval → get (later .timers) t .enable ≡ true → ReadsLow (tval later (w .level) (w .count)) (taken w)
+  unfolding writeTimer
+  tval-again s later w fits same cval enabled =
+      subst (λ (u : ℕ). ReadsLow (readTval (get (later .timers) t) u) (taken w)) (sym (used-again s later (w .level) (w .count) same))
+      (timer-reads-back (get (s .timers) t) (get (later .timers) t) (usedAt s (w .level) (w .count)) (taken w) (count-fits (offsetSeen (factsOf s (w .level))) s (w .count) t fits) cval enabled)
 
 pub tval-reads-back : TvalReadsBack
-tval-reads-back s write read level operand other count t fits msr mrs permitted-write permitted-read enabled =
-    let x : ℕ = writtenOperand write operand in
-    let next : accessOf s write level operand count .next ≡ written level count t s x = write-leaves level count t s write operand msr permitted-write in (
-      tval level count t (accessOf s write level operand count .next),
-      read-gives level count t _ read other mrs permitted-read,
-      subst (λ (n : State). ReadsLow (tval level count t n) x) (sym next) (tval-of-written level count t s x fits enabled),
+tval-reads-back s w between r t h =
+    let later : State = endState accessOf s (w ∷ between) in
+    let cval : get (later .timers) t .cval ≡ left t s w Tval .cval = h .cval ∙ ap (λ (x : Timer). x .cval) (write-leaves t s w Tval (h .write)) in (
+      tval t later (r .level) (r .count),
+      read-gives t later r (h .read),
+      rw (h .level, h .count) (tval-again t s later w (h .fits) (h .context) cval (h .enabled)),
     )
+
+-- ---- what leaves a value as it was written
+
+context-on : (s m n : State) → SameContext s m → SameContext m n → SameContext s n
+context-on s m n p q = q ∙ ap (λ (x : State). withTimers x (n .timers)) p
+
+-- a state that has other timers, and the rest
+other-timers : (s n : State) (ts : Timers) → n ≡ withTimers s ts → SameContext s n
+other-timers s n ts e = e ∙ ap (λ (x : State). withTimers s (x .timers)) (sym e)
+
+abbrev AsWritten : TimerName → State → State → Type 0
+AsWritten t s later = SameContext s later × (get (later .timers) t .cval ≡ get (s .timers) t .cval)
+
+module _ (t : TimerName) where
+  as-written-on : (s m n : State) → AsWritten t s m → AsWritten t m n → AsWritten t s n
+  as-written-on s m n p q = (context-on s m n (p .0) (q .0), q .1 ∙ p .1)
+
+  -- a write of another timer
+  other-timer : (s : State) (u : TimerName) (x : Timer) → (b : Bool) → same u t ≡ b → (same u t ≡ true → ⊥) → AsWritten t s (withTimers s (put (s .timers) u x))
+  other-timer s u x true e not-it = absurd (not-it e)
+  other-timer s u x false e not-it = (refl, ap (λ (y : Timer). y .cval) (get-put-other (s .timers) u t x e))
+
+  -- a write of CTL, its own too, leaves CVAL
+  elsewhere : (f : Facts) (s : State) (count : ℕ) (target : Target) (x : ℕ) → (Holds t target → ⊥) → AsWritten t s (writeOf f s count target x)
+  unfolding writeOf writeTimer
+  elsewhere f s count Target.Cntpct x not-it = (refl, refl)
+  elsewhere f s count Target.Cntvct x not-it = (refl, refl)
+  elsewhere f s count Target.Cntvoff x not-it = absurd (not-it tt)
+  elsewhere f s count (Target.Timer u Tval) x not-it = other-timer s u _ (same u t) refl not-it
+  elsewhere f s count (Target.Timer u Ctl) x not-it =
+      (refl, part-kept (s .timers) (λ (y : Timer). y .cval) u t (writeCtl (get (s .timers) u) x) refl)
+  elsewhere f s count (Target.Timer u Cval) x not-it = other-timer s u _ (same u t) refl not-it
+
+pub left-as-written : LeftAsWritten
+left-as-written s accesses t none =
+    all-keep (Holds t) (AsWritten t) (λ m. (refl, refl)) (as-written-on t) (elsewhere t) s accesses none
+
+pub enabled-afterwards : EnabledAfterwards
+unfolding writeTimer
+enabled-afterwards s w control r t write-w write-control on read-r level count fits =
+    let m : State = serve accessOf s w .next in
+    let n : State = serve accessOf m control .next in
+    let now : get (n .timers) t ≡ left t m control Ctl = write-leaves t m control Ctl write-control in
+    record {
+      write = write-w;
+      read = read-r;
+      level = level;
+      count = count;
+      fits = fits;
+      context = context-on s m n (other-timers s m _ (timer-written s w t Tval write-w)) (other-timers m n _ (timer-written m control t Ctl write-control));
+      cval = ap (λ (x : Timer). x .cval) now;
+      enabled = ap (λ (x : Timer). x .enable) now ∙ on;
+    }
 
 -- ---- for every name with a TVAL
 
@@ -155,13 +216,12 @@ module _ (f : Facts) (name : Name) (has : HasTval name) where
   either-direction b c = tval-names (λ n. verdictOf f n b ≡ verdictOf f n c) refl refl refl refl name has
 
 pub read-follows-write : ReadFollowsWrite
-read-follows-write s write read level operand count name target has n m msr p =
+read-follows-write s later write read level name target has n m same p =
     let f : Facts = factsOf s level in
     let named : p .name ≡ name = cc in
     let verdict : verdictOf f name (isMrs write) ≡ Reaches target = rw named at (p .verdict) in
     let alone : TvalAlone (Reaches target) = subst TvalAlone verdict (tval-alone f name has (isMrs write)) in
     let t : TimerName = alone .0 in
-    let reached : Permitted s write level (Target.Timer t Tval) = subst (Permitted s write level) (alone .1) p in
     let verdict-of-read : verdictOf f name (isMrs read) ≡ Reaches (Target.Timer t Tval) = either-direction f name has (isMrs read) (isMrs write) ∙ verdict ∙ ap Reaches (alone .1) in
     let then : Permitted s read level (Target.Timer t Tval) = record { name = name; named = m; possible = p .possible; verdict = verdict-of-read } in
-    (t, alone .1, subst (λ (s′ : State). Permitted s′ read level (Target.Timer t Tval)) (sym (write-leaves level count t s write operand msr reached)) (whatever-timers _ then))
+    (t, alone .1, subst (λ (x : State). Permitted x read level (Target.Timer t Tval)) (sym same) (whatever-timers (later .timers) then))

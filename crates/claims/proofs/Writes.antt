@@ -13,6 +13,7 @@ use Rattle.rules.specs.declared.name.Part.{Part}
 use Rattle.rules.specs.declared.name.Part.the-variants.{Tval, Ctl, Cval}
 use Rattle.rules.specs.declared.state.State.{State}
 use Rattle.rules.specs.declared.state.Timer.{Timer}
+use Rattle.rules.specs.declared.state.TimerName.{TimerName}
 use Rattle.rules.specs.declared.verdict.Target.{Target}
 use Rattle.rules.specs.declared.verdict.Verdict.{Verdict}
 use Rattle.rules.specs.declared.verdict.Verdict.the-variants.{Undefined, ToEl1, ToEl2, Reaches}
@@ -27,7 +28,7 @@ use Rattle.rules.specs.Access.{permitted, accessOf}
 use Rattle.rules.proofs.Rules.{at-level-holds}
 use Rattle.rules.proofs.Verdicts.{cntp-holds, cntv-holds, cnthp-holds, cnthvs-holds}
 use Rattle.rules.proofs.Timers.{get-put-same}
-use Rattle.claims.specs.Desk.{Permitted}
+use Rattle.claims.specs.Desk.{Access, serve, Permitted, PermittedWrite, taken}
 use Rattle.claims.specs.Writes.{OnePart, OneRegister, WritesChangeOne, ReadsGive, DoneIsPermitted}
 use Rattle.claims.proofs.Ways.{ways, ends}
 
@@ -93,6 +94,12 @@ writes-change-one s word level operand count target msr p =
       next = left;
       one = subst (λ (n : State). OneRegister target s n) (sym left) (one-register f s count target (writtenOperand word operand) (permitted-writable msr p));
     }
+
+-- a permitted write to a timer: the timer is written at the count used, and the rest stands
+pub timer-written : (s : State) (a : Access) (t : TimerName) (p : Part) → PermittedWrite s a (Target.Timer t p) → serve accessOf s a .next ≡ withTimers s (put (s .timers) t (writeTimer (get (s .timers) t) p (usedCount (factsOf s (a .level)) s (a .count) t) (taken a)))
+unfolding writeOf
+timer-written s a t p w =
+    writes-change-one s (a .word) (a .level) (a .operand) (a .count) (Target.Timer t p) (w .write) (w .permitted) .next
 
 pub reads-give : ReadsGive
 unfolding permitted

@@ -1,6 +1,7 @@
--- What answers accesses, one or one after the other. The claims are of `accessOf`; the impostors are desks too.
+-- What answers accesses, one or one after the other, and which of them are permitted. The claims are of `accessOf`; the
+-- impostors are desks too.
 use Prim.Native.Nat.{ℕ}
-use mathlib.Core.Bool.{false}
+use mathlib.Core.Bool.{true, false}
 use mathlib.Core.List.{List, [], _∷_}
 use mathlib.Core.Path.{_≡_}
 use Rattle.rules.specs.declared.answer.Answer.{Answer}
@@ -11,9 +12,10 @@ use Rattle.rules.specs.declared.state.State.{State}
 use Rattle.rules.specs.declared.verdict.Target.{Target}
 use Rattle.rules.specs.declared.verdict.Verdict.{Verdict}
 use Rattle.rules.specs.Words.{factsOf}
-use Rattle.rules.specs.Names.{nameOf, isMrs}
+use Rattle.rules.specs.Names.{nameOf, isMrs, writtenOperand}
 use Rattle.rules.specs.Verdicts.{verdictOf}
 use Rattle.rules.specs.Context.{impossibleAt}
+use Rattle.rules.specs.Access.{accessOf}
 
 -- a state, an instruction word, a level, an operand and a physical count come to an answer and the next state
 abbrev pub Desk : Type 0
@@ -44,3 +46,22 @@ pub record Permitted (s : State) (word level : ℕ) (target : Target) : Type 0 w
   pub named : nameOf word ≡ Lookup.Named name
   pub possible : impossibleAt s level ≡ false
   pub verdict : verdictOf (factsOf s level) name (isMrs word) ≡ Verdict.Reaches target
+
+-- a permitted write, and a permitted read, of the register that is reached
+pub record PermittedWrite (s : State) (a : Access) (target : Target) : Type 0 where
+  pub write : isMrs (a .word) ≡ false
+  pub permitted : Permitted s (a .word) (a .level) target
+
+pub record PermittedRead (s : State) (a : Access) (target : Target) : Type 0 where
+  pub read : isMrs (a .word) ≡ true
+  pub permitted : Permitted s (a .word) (a .level) target
+
+-- what a write takes: its operand, or 0 for Rt 31
+abbrev pub taken : Access → ℕ
+taken a = writtenOperand (a .word) (a .operand)
+
+-- of accesses one after the other, by any level and any guest, none is a permitted write that reaches one of these registers
+abbrev pub NoneReaches : (Target → Type 0) → State → List Access → Type 0
+NoneReaches These s [] = Unit {0}
+NoneReaches These s (a ∷ rest) =
+    ((target : Target) → These target → PermittedWrite s a target → ⊥) × NoneReaches These (serve accessOf s a .next) rest

@@ -13,7 +13,7 @@ use Rattle.rules.specs.declared.state.TimerName.the-variants.{Cntv}
 use Rattle.rules.specs.declared.verdict.Target.{Target}
 use Rattle.rules.specs.declared.verdict.Target.the-variants.{Cntpct, Cntvct, Cntvoff, Timer}
 use Rattle.rules.specs.Bits.{bit}
-use Rattle.rules.specs.Names.{isMrs, rtOf, writtenOperand}
+use Rattle.rules.specs.Names.{rtOf}
 use Rattle.rules.specs.Arithmetic.{_plus_, _less_, signed32}
 use Rattle.rules.specs.Timers.{same, timerOf}
 use Rattle.rules.specs.Values.{known}
@@ -21,7 +21,7 @@ use Rattle.rules.specs.Answers.{doneRead}
 use Rattle.rules.specs.Context.{impossible}
 use Rattle.rules.specs.Access.{accessOf}
 use Rattle.rules.specs.Lines.{linesOf}
-use Rattle.claims.specs.Desk.{Access, serve, endState, Permitted}
+use Rattle.claims.specs.Desk.{Access, serve, endState, PermittedWrite, PermittedRead, taken, NoneReaches}
 use Rattle.claims.specs.Guests.{TrappedGuest, Alike, AllShown}
 
 -- ---- words
@@ -33,19 +33,6 @@ virtualAt s physical = physical less s .cntvoff
 -- CNTV's line is raised at a physical count
 abbrev pub lineAt : State → ℕ → Bool
 lineAt s physical = linesOf s physical .cntv
-
--- a permitted write, and a permitted read, of the register that is reached
-pub record PermittedWrite (s : State) (a : Access) (target : Target) : Type 0 where
-  pub write : isMrs (a .word) ≡ false
-  pub permitted : Permitted s (a .word) (a .level) target
-
-pub record PermittedRead (s : State) (a : Access) (target : Target) : Type 0 where
-  pub read : isMrs (a .word) ≡ true
-  pub permitted : Permitted s (a .word) (a .level) target
-
--- what a write takes: its operand, or 0 for Rt 31
-abbrev pub taken : Access → ℕ
-taken a = writtenOperand (a .word) (a .operand)
 
 -- what a TVAL write sets: v plus n, v the virtual count and n the low 32 bits as signed
 abbrev pub deadlineOf : State → Access → ℕ
@@ -91,6 +78,10 @@ GivenBack =
     PermittedWrite s control (Timer Cntv Ctl) →
     bit 0 (taken control) ≡ false →
     lineAt (serve accessOf s control .next) physical ≡ false
+
+-- masked it is silent: whatever the timer holds, its line is down at every count
+abbrev pub MaskedIsSilent : Type 0
+MaskedIsSilent = (s : State) (physical : ℕ) → s .timers .cntv .imask ≡ true → lineAt s physical ≡ false
 
 -- ---- 2. Not early, not late
 
@@ -148,12 +139,6 @@ OfTheLease Cntvct = ⊥
 OfTheLease Cntvoff = Unit {0}
 OfTheLease (Timer t p) = same t Cntv ≡ true
 
--- of accesses one after the other, by any level and any guest, none is a permitted write that reaches one of these
-abbrev pub NoneReachesIt : State → List Access → Type 0
-NoneReachesIt s [] = Unit {0}
-NoneReachesIt s (a ∷ rest) =
-    ((target : Target) → OfTheLease target → PermittedWrite s a target → ⊥) × NoneReachesIt (serve accessOf s a .next) rest
-
 -- the same lease: the timer as it is, so a deadline stands, and at each virtual count the same line
 pub record SameLease (s t : State) : Type 0 where
   pub timer : s .timers .cntv ≡ t .timers .cntv
@@ -163,7 +148,7 @@ pub record SameLease (s t : State) : Type 0 where
 abbrev pub LeftAlone : Type 0
 LeftAlone =
     (s : State) (accesses : List Access) →
-    NoneReachesIt s accesses →
+    NoneReaches OfTheLease s accesses →
     (endState accessOf s accesses .cntvoff ≡ s .cntvoff) × SameLease s (endState accessOf s accesses)
 
 -- ---- 4. TVAL tells the truth
@@ -215,7 +200,7 @@ LeaseKept =
     (s : State) (value control : Access) (both accesses : List Access) →
     Takes s value control →
     InEitherOrder value control both →
-    NoneReachesIt (endState accessOf s both) accesses →
+    NoneReaches OfTheLease (endState accessOf s both) accesses →
     InPlainNumbers (endState accessOf (endState accessOf s both) accesses) (virtualAt s (value .count)) (taken value)
 
 pub record LeaseClaim : Type 0 where
@@ -223,6 +208,7 @@ pub record LeaseClaim : Type 0 where
   pub armed : Armed
   pub renewed : Renewed
   pub givenBack : GivenBack
+  pub maskedIsSilent : MaskedIsSilent
   pub endsAtTheDeadline : EndsAtTheDeadline
   pub notEarlyNotLate : NotEarlyNotLate
   pub leftAlone : LeftAlone

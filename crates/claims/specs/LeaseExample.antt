@@ -8,8 +8,8 @@ use Rattle.rules.specs.declared.state.State.{State}
 use Rattle.rules.specs.Words.{EL1, EL2}
 use Rattle.rules.specs.Access.{accessOf}
 use Rattle.rules.specs.Readings.{start}
-use Rattle.claims.specs.Desk.{Access, serve, endState}
-use Rattle.claims.specs.Lease.{lineAt, taken, Takes, NoneReachesIt, Ahead, UpFrom}
+use Rattle.claims.specs.Desk.{Access, serve, endState, taken, NoneReaches}
+use Rattle.claims.specs.Lease.{lineAt, Takes, OfTheLease, Ahead, UpFrom}
 
 abbrev asked : ℕ → ℕ → ℕ → ℕ → Access
 asked word level operand count = record { word = word; level = level; operand = operand; count = count }
@@ -36,7 +36,7 @@ offsetMoved = asked 0xD51CE07F EL2 0 1050
 pub record LeaseExample : Type 0 where
   -- it meets what the claim asks, and ends at 600 + 500
   pub takes : Takes start value control
-  pub alone : NoneReachesIt begun onTheWay
+  pub alone : NoneReaches OfTheLease begun onTheWay
   pub ahead : Ahead (taken value) 500
   pub ends : UpFrom (endState accessOf begun onTheWay) 1100
   -- CNTVOFF has to be left alone too: a write of it moves the end, here to physical 1100 from 1500

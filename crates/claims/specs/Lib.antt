@@ -1,6 +1,9 @@
 -- What is claimed of the rulebook, a file for each claim. A statement is a type; proofs/ holds its proof.
 pub mod Desk
 pub mod Refusals
+pub mod Numbers
+pub mod Grounds
+pub mod Offset
 pub mod Writes
 pub mod ReadBack
 pub mod Guests
@@ -8,5 +11,4 @@ pub mod Journals
 pub mod TwoMachines
 pub mod Lease
 pub mod LeaseExample
-pub mod OneAnswer
 pub mod Impostors

@@ -1,6 +1,7 @@
 -- Demand 2: a timer value that a write took is read back.
 use Prim.Native.Nat.{ℕ, _<_, _^_}
-use mathlib.Core.Bool.{true, false}
+use mathlib.Core.Bool.{true}
+use mathlib.Core.List.{List, [], _∷_}
 use mathlib.Core.Path.{_≡_}
 use Rattle.rules.specs.declared.answer.Value.{Value}
 use Rattle.rules.specs.declared.name.Lookup.{Lookup}
@@ -12,13 +13,13 @@ use Rattle.rules.specs.declared.state.State.{State}
 use Rattle.rules.specs.declared.state.Timer.{Timer}
 use Rattle.rules.specs.declared.state.TimerName.{TimerName}
 use Rattle.rules.specs.declared.verdict.Target.{Target}
-use Rattle.rules.specs.Bits.{bits}
-use Rattle.rules.specs.Names.{nameOf, isMrs, rtOf, writtenOperand}
-use Rattle.rules.specs.Timers.{get}
+use Rattle.rules.specs.Bits.{bits, bit}
+use Rattle.rules.specs.Names.{nameOf, rtOf}
+use Rattle.rules.specs.Timers.{same, get, withTimers}
 use Rattle.rules.specs.Values.{readTval, writeTval}
 use Rattle.rules.specs.Answers.{doneRead}
 use Rattle.rules.specs.Access.{accessOf}
-use Rattle.claims.specs.Desk.{Permitted}
+use Rattle.claims.specs.Desk.{Access, serve, endState, Permitted, PermittedWrite, PermittedRead, taken, NoneReaches}
 
 abbrev pub low32 : ℕ → ℕ
 low32 x = bits 31 0 x
@@ -37,20 +38,60 @@ TimerReadsBack =
     now .enable ≡ true →
     ReadsLow (readTval now used) x
 
--- where both accesses are permitted, at one level and one count, and reach the TVAL of one timer that is enabled: done, with
--- the same low 32 bits as the write took, which is 0 for Rt 31
+-- the same context: features, controls and both offsets, which is all but the timers
+abbrev pub SameContext : State → State → Type 0
+SameContext s t = t ≡ withTimers s (t .timers)
+
+-- a TVAL write, whatever is asked after it, and a TVAL read: both permitted and of one timer, at the same count and level, in
+-- the same context; the timer's CVAL is as the write left it, and it is enabled, wherever ENABLE came from
+pub record WrittenThenRead (s : State) (w : Access) (between : List Access) (r : Access) (t : TimerName) : Type 0 where
+  pub write : PermittedWrite s w (Target.Timer t Tval)
+  pub read : PermittedRead (endState accessOf s (w ∷ between)) r (Target.Timer t Tval)
+  pub level : r .level ≡ w .level
+  pub count : r .count ≡ w .count
+  pub fits : w .count < 2 ^ 64
+  pub context : SameContext s (endState accessOf s (w ∷ between))
+  pub cval : get (endState accessOf s (w ∷ between) .timers) t .cval ≡ get (serve accessOf s w .next .timers) t .cval
+  pub enabled : get (endState accessOf s (w ∷ between) .timers) t .enable ≡ true
+
+-- then it is done, with the same low 32 bits as the write took, which is 0 for Rt 31
 abbrev pub TvalReadsBack : Type 0
 TvalReadsBack =
-    (s : State) (write read level operand other count : ℕ) (t : TimerName) →
-    count < 2 ^ 64 →
-    isMrs write ≡ false →
-    isMrs read ≡ true →
-    Permitted s write level (Target.Timer t Tval) →
-    Permitted (accessOf s write level operand count .next) read level (Target.Timer t Tval) →
-    get (s .timers) t .enable ≡ true →
+    (s : State) (w : Access) (between : List Access) (r : Access) (t : TimerName) →
+    WrittenThenRead s w between r t →
     (v : Value) ×
-    (accessOf (accessOf s write level operand count .next) read level other count .answer ≡ doneRead (rtOf read) v) ×
-    ReadsLow v (writtenOperand write operand)
+    (serve accessOf (endState accessOf s (w ∷ between)) r .answer ≡ doneRead (rtOf (r .word)) v) ×
+    ReadsLow v (taken w)
+
+-- the registers that what was written hangs on: CNTVOFF, and of the timer itself TVAL and CVAL. CTL is not among them, so the
+-- timer may be enabled after the write
+abbrev pub Holds : TimerName → Target → Type 0
+Holds t Target.Cntpct = ⊥
+Holds t Target.Cntvct = ⊥
+Holds t Target.Cntvoff = Unit {0}
+Holds t (Target.Timer u Tval) = same u t ≡ true
+Holds t (Target.Timer u Ctl) = ⊥
+Holds t (Target.Timer u Cval) = same u t ≡ true
+
+-- accesses of which none is a permitted write that reaches one of these leave the context and that CVAL
+abbrev pub LeftAsWritten : Type 0
+LeftAsWritten =
+    (s : State) (accesses : List Access) (t : TimerName) →
+    NoneReaches (Holds t) s accesses →
+    SameContext s (endState accessOf s accesses) × (get (endState accessOf s accesses .timers) t .cval ≡ get (s .timers) t .cval)
+
+-- so does a permitted write of CTL with ENABLE 1: a timer that was off when it was written reads back once it is on
+abbrev pub EnabledAfterwards : Type 0
+EnabledAfterwards =
+    (s : State) (w control r : Access) (t : TimerName) →
+    PermittedWrite s w (Target.Timer t Tval) →
+    PermittedWrite (serve accessOf s w .next) control (Target.Timer t Ctl) →
+    bit 0 (taken control) ≡ true →
+    PermittedRead (endState accessOf s (w ∷ control ∷ [])) r (Target.Timer t Tval) →
+    r .level ≡ w .level →
+    r .count ≡ w .count →
+    w .count < 2 ^ 64 →
+    WrittenThenRead s w (control ∷ []) r t
 
 -- the names of TVAL registers
 abbrev pub IsTval : Part → Type 0
@@ -69,15 +110,16 @@ HasTval Cntvoff = ⊥
 HasTval (Cnthp p) = IsTval p
 HasTval (Cnthvs p) = IsTval p
 
--- for every such name: where a write is permitted, so is a read at the same level, and it reaches the TVAL of the same timer
+-- for every such name: where a write is permitted, so is a read at the same level in the same context, and it reaches the
+-- TVAL of the same timer
 abbrev pub ReadFollowsWrite : Type 0
 ReadFollowsWrite =
-    (s : State) (write read level operand count : ℕ) (name : Name) (target : Target) →
+    (s later : State) (write read level : ℕ) (name : Name) (target : Target) →
     HasTval name →
     nameOf write ≡ Lookup.Named name →
     nameOf read ≡ Lookup.Named name →
-    isMrs write ≡ false →
+    SameContext s later →
     Permitted s write level target →
     (t : TimerName) ×
     (target ≡ Target.Timer t Tval) ×
-    Permitted (accessOf s write level operand count .next) read level (Target.Timer t Tval)
+    Permitted later read level (Target.Timer t Tval)

@@ -14,7 +14,7 @@ use Rattle.rules.specs.Arithmetic.{_plus_, _less_, signed32}
 use Rattle.rules.specs.Bits.{bit}
 use Rattle.rules.specs.Counts.{countOf}
 use Rattle.rules.specs.Timers.{timerOf}
-use Rattle.rules.specs.Values.{known, readTval, writeTval, raised, readCtl, writeCtl}
+use Rattle.rules.specs.Values.{known, readTval, writeTval, met, raised, readCtl, writeCtl}
 
 -- on, unmasked, CVAL the deadline
 abbrev leased : ℕ → Timer
@@ -35,9 +35,17 @@ unmasked-line : (met : Bool) → met && not false ≡ met
 unmasked-line true = refl
 unmasked-line false = refl
 
+masked : (met : Bool) → met && not true ≡ false
+masked true = refl
+masked false = refl
+
 module _ (deadline count : ℕ) where
   pub raised-at : raised (leased deadline) count ≡ leb deadline count
   raised-at = unmasked-line (leb deadline count)
+
+  -- a masked timer raises no line, on or off
+  pub masked-line : (enable : Bool) → raised (timerOf deadline enable true) count ≡ false
+  masked-line enable = masked (met (timerOf deadline enable true) count)
 
   pub status-at : readCtl (leased deadline) count ≡ known (1 + cond (leb deadline count) 4 0)
   status-at = refl

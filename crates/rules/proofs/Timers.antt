@@ -1,7 +1,7 @@
 -- Laws of get and put, once over the timer: by cases on its name each side computes to the same timer.
 -- Assumes nothing.
 use mathlib.Core.Bool.{Bool, true, false, cond}
-use mathlib.Core.Path.{_≡_, refl, _∙_}
+use mathlib.Core.Path.{_≡_, refl, sym, ap, _∙_}
 use Rattle.rules.specs.declared.state.Timer.{Timer}
 use Rattle.rules.specs.declared.state.Timers.{Timers}
 use Rattle.rules.specs.declared.state.TimerName.{TimerName}
@@ -44,6 +44,17 @@ module _ (ts : Timers) where
   put-get Cnthv = refl
   put-get Cnthps = refl
   put-get Cnthvs = refl
+
+  -- what a put leaves of one timer it leaves of all: read by g, the six are as they were
+  module _ {A : Type 0} (g : Timer → A) (t u : TimerName) (x : Timer) (left : g x ≡ g (get ts t)) where
+    by-place : (b : Bool) → same t u ≡ b → g (get (put ts t x) u) ≡ g (get ts u)
+    by-place true e =
+        let there : get ts t ≡ get ts u = sym (get-put t u (get ts t) ∙ rw e) ∙ ap (λ (all : Timers). get all u) (put-get t) in
+        ap g (get-put t u x ∙ rw e) ∙ left ∙ ap g there
+    by-place false e = ap g (get-put-other t u x e)
+
+    pub part-kept : g (get (put ts t x) u) ≡ g (get ts u)
+    part-kept = by-place (same t u) refl
 
   -- of two puts at one place the last stands
   pub put-put : (t : TimerName) (x y : Timer) → put (put ts t x) t y ≡ put ts t y

@@ -1,0 +1,127 @@
+-- What goes with each number: an access is refused, stopped by a verdict, or permitted, and each of these ends in one of the
+-- constructors of an answer. The numbers of a run follow its two tests, which are arithmetic.
+-- Assumes nothing.
+use Prim.Native.Nat.{ℕ, _*_, _/_, _%_, _<_, _≤_}
+use mathlib.Core.Bool.{Bool, true, false, not, _||_}
+use mathlib.Core.List.{List}
+use mathlib.Core.Path.{_≡_, refl}
+use native.Mathlib.Omega.{arith}
+use lib.Dec.{eqb, ltb}
+use lib.ListN.{length}
+use borrow.Author.Tests.{eq-eqb, ne-eqb, eqb-true, lt-ltb, le-ltb}
+use Rattle.rules.specs.declared.answer.Answer.{Answer}
+use Rattle.rules.specs.declared.facts.Facts.{Facts}
+use Rattle.rules.specs.declared.name.Lookup.{Lookup}
+use Rattle.rules.specs.declared.name.Lookup.the-variants.{Named, NotNamed}
+use Rattle.rules.specs.declared.name.Name.{Name}
+use Rattle.rules.specs.declared.record.Record.{Record}
+use Rattle.rules.specs.declared.state.State.{State}
+use Rattle.rules.specs.declared.verdict.Target.{Target}
+use Rattle.rules.specs.declared.verdict.Verdict.{Verdict}
+use Rattle.rules.specs.declared.verdict.Verdict.the-variants.{Undefined, ToEl1, ToEl2, Reaches}
+use Rattle.rules.specs.Words.{factsOf}
+use Rattle.rules.specs.Names.{nameOf, isMrs, rtOf}
+use Rattle.rules.specs.Verdicts.{verdictOf}
+use Rattle.rules.specs.Answers.{answer, undefinedAt, trapped, refused}
+use Rattle.rules.specs.Context.{impossibleAt}
+use Rattle.rules.specs.Access.{permitted, ruled, served, accessOf}
+use Rattle.rules.specs.Journal.{recordServed, badJournal, shortBuffer, runOf}
+use Rattle.claims.specs.Numbers.{AnswerFor, EachAnswer, EachRecord, RunGets, EachRun}
+
+-- ---- an access
+
+-- an answer of value and mask 0
+empty : (word number rt : ℕ) → number ≤ 5 → (number ≤ 3 → rt ≡ rtOf word) → (4 ≤ number → rt ≡ 0) → AnswerFor word (answer number rt 0 0)
+empty word number rt upTo5 upTo3 from4 =
+    record {
+      upTo5 = upTo5;
+      upTo3 = upTo3;
+      from4 = from4;
+      notDone = λ h. (refl, refl);
+      written = λ h. (refl, refl);
+    }
+
+stopped : (word number : ℕ) → number ≤ 3 → AnswerFor word (answer number (rtOf word) 0 0)
+stopped word number h = empty word number (rtOf word) (omega arith) (λ g. refl) (λ g. omega arith)
+
+refusal : (word number : ℕ) → 4 ≤ number → number ≤ 5 → AnswerFor word (refused number)
+refusal word number h k = empty word number 0 k (λ g. omega arith) (λ g. refl)
+
+module _ (f : Facts) (s : State) (word operand count : ℕ) where
+  done : (target : Target) (b : Bool) → isMrs word ≡ b → AnswerFor word (permitted f s word operand count target .answer)
+  unfolding permitted
+  done target true e =
+      rw e (record {
+        upTo5 = omega arith;
+        upTo3 = λ h. refl;
+        from4 = λ h. omega arith;
+        notDone = λ h. omega arith;
+        written = λ h. let no : _≡_ {A = ℕ} 0 1 = cc in omega arith;
+      })
+  done target false e = rw e (stopped word 0 (omega arith))
+
+  by-verdict : (v : Verdict) → AnswerFor word (ruled f s word operand count v .answer)
+  unfolding ruled
+  by-verdict Undefined = stopped word 1 (omega arith)
+  by-verdict ToEl1 = stopped word 2 (omega arith)
+  by-verdict ToEl2 = stopped word 3 (omega arith)
+  by-verdict (Reaches target) = done target (isMrs word) refl
+
+module _ (s : State) (word level operand count : ℕ) where
+  by-context : (name : Name) (b : Bool) → impossibleAt s level ≡ b → AnswerFor word (served s word level operand count (Named name) .answer)
+  unfolding served
+  by-context name true e = rw e (refusal word 5 (omega arith) (omega arith))
+  by-context name false e =
+      rw e (by-verdict (factsOf s level) s word operand count (verdictOf (factsOf s level) name (isMrs word)))
+
+  by-name : (l : Lookup) → AnswerFor word (served s word level operand count l .answer)
+  unfolding served
+  by-name NotNamed = refusal word 4 (omega arith) (omega arith)
+  by-name (Named name) = by-context name (impossibleAt s level) refl
+
+pub each-answer : EachAnswer
+unfolding accessOf
+each-answer s word level operand count = by-name s word level operand count (nameOf word)
+
+-- ---- a record
+
+pub each-record : EachRecord
+unfolding recordServed
+each-record =
+    record {
+      reserved = λ s r set. rw (ne-eqb (r .reserved) 0 set);
+      clear = λ s r clear. rw (eq-eqb (r .reserved) 0 clear);
+    }
+
+-- ---- a run
+
+module _ (s : State) (journal answers : List ℕ) where
+  gets-7 : badJournal journal ≡ true → runOf s journal answers .number ≡ 7
+  unfolding runOf
+  gets-7 bad = rw bad
+
+  ragged : (length journal % 24 ≡ 0 → ⊥) → badJournal journal ≡ true
+  ragged h = rw (ne-eqb (length journal % 24) 0 h)
+
+  -- by whether it is ragged too
+  too-long : 1024 * 24 < length journal → (b : Bool) → eqb (length journal % 24) 0 ≡ b → badJournal journal ≡ true
+  too-long h true e =
+      let whole : length journal % 24 ≡ 0 = eqb-true (length journal % 24) 0 e in
+      rw (e, lt-ltb 1024 (length journal / 24) (omega arith))
+  too-long h false e = rw e
+
+  good : length journal % 24 ≡ 0 → length journal ≤ 1024 * 24 → badJournal journal ≡ false
+  good h k = rw (eq-eqb (length journal % 24) 0 h, le-ltb 1024 (length journal / 24) (omega arith))
+
+  run-gets : RunGets s journal answers
+  unfolding runOf
+  run-gets =
+      record {
+        ragged = λ h. gets-7 (ragged h);
+        tooLong = λ h. gets-7 (too-long h (eqb (length journal % 24) 0) refl);
+        tooShort = λ h k short. rw (good h k, lt-ltb (length answers) (length journal) short);
+        served = λ h k long. rw (good h k, le-ltb (length answers) (length journal) long);
+      }
+
+pub each-run : EachRun
+each-run = run-gets

@@ -1,0 +1,3 @@
+-- The proofs of what specs/ states.
+pub mod OneAnswer
+pub mod OneLentAnswer

@@ -1,0 +1,3 @@
+-- What is said of the promises themselves.
+pub mod OneAnswer
+pub mod OneLentAnswer
