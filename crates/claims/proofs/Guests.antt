@@ -27,10 +27,11 @@ use Rattle.rules.specs.declared.verdict.Verdict.the-variants.{Undefined, ToEl1,
 use Rattle.rules.specs.Words.{EL0, EL1, EL2, physicalTrapped, factsOf}
 use Rattle.rules.specs.Names.{nameOf, isMrs, rtOf, writtenOperand}
 use Rattle.rules.specs.Verdicts.{verdictOf}
-use Rattle.rules.specs.Timers.{put, withTimers}
+use Rattle.rules.specs.Timers.{put}
+use Rattle.rules.specs.States.{withTimers}
 use Rattle.rules.specs.Counts.{virtual, virtualSeen, countOf}
 use Rattle.rules.specs.Values.{known, readTimer, writeTimer, readOf, writeOf}
-use Rattle.rules.specs.Answers.{trapToEl1, trapToEl2, notNamed, impossibleContext, doneRead, doneWrite, undefinedAt, trapped, refused}
+use Rattle.rules.specs.Answers.{trapToEl1, trapToEl2, notATimerAccess, impossibleContext, doneRead, doneWrite, undefinedAt, trapped, refused}
 use Rattle.rules.specs.Context.{impossible, impossibleAt}
 use Rattle.rules.specs.Access.{permitted, ruled, served, accessOf}
 use Rattle.rules.proofs.Timers.{get-put-other}
@@ -53,15 +54,15 @@ abbrev seenBy : ℕ → ℕ → Timer → ℕ → Verdict → Seen
 seenBy word operand cntv v Undefined = seen (undefinedAt (rtOf word)) cntv
 seenBy word operand cntv v ToEl1 = seen (trapped trapToEl1 (rtOf word)) cntv
 seenBy word operand cntv v ToEl2 = seen (trapped trapToEl2 (rtOf word)) cntv
-seenBy word operand cntv v (Reaches Target.Cntpct) = seen (refused notNamed) cntv
+seenBy word operand cntv v (Reaches Target.Cntpct) = seen (refused notATimerAccess) cntv
 seenBy word operand cntv v (Reaches Target.Cntvct) = seen (cond (isMrs word) (doneRead (rtOf word) (known v)) (doneWrite (rtOf word))) cntv
-seenBy word operand cntv v (Reaches Target.Cntvoff) = seen (refused notNamed) cntv
+seenBy word operand cntv v (Reaches Target.Cntvoff) = seen (refused notATimerAccess) cntv
 seenBy word operand cntv v (Reaches (Target.Timer t p)) =
     seen (cond (isMrs word) (doneRead (rtOf word) (readTimer cntv p v v)) (doneWrite (rtOf word)))
     (cond (isMrs word) cntv (writeTimer cntv p v (writtenOperand word operand)))
 
 abbrev seenOf : Facts → Bool → ℕ → ℕ → Timer → ℕ → Lookup → Seen
-seenOf f impossible word operand cntv v NotNamed = seen (refused notNamed) cntv
+seenOf f impossible word operand cntv v NotNamed = seen (refused notATimerAccess) cntv
 seenOf f impossible word operand cntv v (Named name) =
     cond impossible (seen (refused impossibleContext) cntv) (seenBy word operand cntv v (verdictOf f name (isMrs word)))
 

@@ -25,7 +25,8 @@ use Rattle.rules.specs.declared.verdict.Target.{Target}
 use Rattle.rules.specs.Words.{EL3, offsetOn, factsOf}
 use Rattle.rules.specs.Names.{isMrs, rtOf}
 use Rattle.rules.specs.Arithmetic.{_plus_, signed32}
-use Rattle.rules.specs.Timers.{same, timerOf, put, withTimers}
+use Rattle.rules.specs.Timers.{same, timerOf, put}
+use Rattle.rules.specs.States.{withTimers}
 use Rattle.rules.specs.Counts.{offsetSeen}
 use Rattle.rules.specs.Values.{raised, readTimer, writeTimer, readOf, writeOf}
 use Rattle.rules.specs.Answers.{doneRead}

@@ -25,7 +25,7 @@ use Rattle.rules.specs.Verdicts.{verdictOf}
 use Rattle.rules.specs.Answers.{answer, undefinedAt, trapped, refused}
 use Rattle.rules.specs.Context.{impossibleAt}
 use Rattle.rules.specs.Access.{permitted, ruled, served, accessOf}
-use Rattle.rules.specs.Journal.{recordServed, badJournal, shortBuffer, runOf}
+use Rattle.rules.specs.Journal.{recordServed, isBadJournal, isBufferTooShort, runOf}
 use Rattle.claims.specs.Numbers.{AnswerFor, EachAnswer, EachRecord, RunGets, EachRun}
 
 -- ---- an access
@@ -96,21 +96,21 @@ each-record =
 -- ---- a run
 
 module _ (s : State) (journal answers : List ℕ) where
-  gets-7 : badJournal journal ≡ true → runOf s journal answers .number ≡ 7
+  gets-7 : isBadJournal journal ≡ true → runOf s journal answers .number ≡ 7
   unfolding runOf
   gets-7 bad = rw bad
 
-  ragged : (length journal % 24 ≡ 0 → ⊥) → badJournal journal ≡ true
+  ragged : (length journal % 24 ≡ 0 → ⊥) → isBadJournal journal ≡ true
   ragged h = rw (ne-eqb (length journal % 24) 0 h)
 
   -- by whether it is ragged too
-  too-long : 1024 * 24 < length journal → (b : Bool) → eqb (length journal % 24) 0 ≡ b → badJournal journal ≡ true
+  too-long : 1024 * 24 < length journal → (b : Bool) → eqb (length journal % 24) 0 ≡ b → isBadJournal journal ≡ true
   too-long h true e =
       let whole : length journal % 24 ≡ 0 = eqb-true (length journal % 24) 0 e in
       rw (e, lt-ltb 1024 (length journal / 24) (omega arith))
   too-long h false e = rw e
 
-  good : length journal % 24 ≡ 0 → length journal ≤ 1024 * 24 → badJournal journal ≡ false
+  good : length journal % 24 ≡ 0 → length journal ≤ 1024 * 24 → isBadJournal journal ≡ false
   good h k = rw (eq-eqb (length journal % 24) 0 h, le-ltb 1024 (length journal / 24) (omega arith))
 
   run-gets : RunGets s journal answers

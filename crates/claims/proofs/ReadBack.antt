@@ -19,7 +19,8 @@ use Rattle.rules.specs.declared.verdict.Verdict.the-variants.{Undefined, ToEl1,
 use Rattle.rules.specs.Verdicts.{verdictOf}
 use Rattle.rules.specs.Words.{factsOf}
 use Rattle.rules.specs.Names.{isMrs, rtOf}
-use Rattle.rules.specs.Timers.{same, get, put, withTimers}
+use Rattle.rules.specs.Timers.{same, get, put}
+use Rattle.rules.specs.States.{withTimers}
 use Rattle.rules.specs.Values.{readTval, writeTval, writeCtl, readTimer, writeTimer, readOf, writeOf}
 use Rattle.rules.specs.Answers.{doneRead}
 use Rattle.rules.specs.Access.{accessOf}

@@ -16,7 +16,7 @@ use Rattle.rules.specs.declared.verdict.Target.{Target}
 use Rattle.rules.specs.Names.{isMrs}
 use Rattle.rules.specs.Answers.{done}
 use Rattle.rules.specs.Access.{permitted}
-use Rattle.rules.specs.Journal.{recordServed, stateAfter, answersOf, badJournal, shortBuffer, runOf, bufferAfter}
+use Rattle.rules.specs.Journal.{recordServed, stateAfter, answersOf, isBadJournal, isBufferTooShort, runOf, bufferAfter}
 use Rattle.claims.specs.Refusals.{RefusalsMoveNothing, RecordRefusalsMoveNothing, RunRefusalsMoveNothing, ReadsMoveNothing}
 use Rattle.claims.proofs.Ways.{ways}
 
@@ -45,7 +45,7 @@ pub record-refusals-move-nothing : RecordRefusalsMoveNothing
 record-refusals-move-nothing s r = by-reserved s r (eqb (r .reserved) 0) refl
 
 module _ (s : State) (journal answers : List ℕ) (refused : runOf s journal answers .number ≡ done → ⊥) where
-  by-tests : (bad short : Bool) → badJournal journal ≡ bad → shortBuffer journal answers ≡ short → (runOf s journal answers .next ≡ s) × (bufferAfter s journal answers ≡ answers)
+  by-tests : (bad short : Bool) → isBadJournal journal ≡ bad → isBufferTooShort journal answers ≡ short → (runOf s journal answers .next ≡ s) × (bufferAfter s journal answers ≡ answers)
   unfolding runOf bufferAfter stateAfter answersOf
   by-tests true short e f = (rw e, rw e)
   by-tests false true e f = (rw (e, f), rw (e, f))
@@ -53,7 +53,7 @@ module _ (s : State) (journal answers : List ℕ) (refused : runOf s journal ans
 
 pub run-refusals-move-nothing : RunRefusalsMoveNothing
 run-refusals-move-nothing s journal answers refused =
-    by-tests s journal answers refused (badJournal journal) (shortBuffer journal answers) refl refl
+    by-tests s journal answers refused (isBadJournal journal) (isBufferTooShort journal answers) refl refl
 
 pub reads-move-nothing : ReadsMoveNothing
 unfolding permitted

@@ -19,8 +19,8 @@ use Rattle.rules.specs.declared.verdict.Verdict.the-variants.{Undefined, ToEl1,
 use Rattle.rules.specs.Words.{factsOf}
 use Rattle.rules.specs.Names.{nameOf, isMrs, rtOf}
 use Rattle.rules.specs.Verdicts.{verdictOf}
-use Rattle.rules.specs.Answers.{done, trapToEl1, trapToEl2, notNamed, impossibleContext, undefinedAt, trapped, refused, asBefore}
-use Rattle.rules.specs.Timers.{withTimers}
+use Rattle.rules.specs.Answers.{done, trapToEl1, trapToEl2, notATimerAccess, impossibleContext, undefinedAt, trapped, refused, asBefore}
+use Rattle.rules.specs.States.{withTimers}
 use Rattle.rules.specs.Context.{impossible, impossibleAt}
 use Rattle.rules.specs.Access.{permitted, ruled, served, accessOf}
 use Rattle.claims.specs.Desk.{Permitted}
@@ -48,7 +48,7 @@ module _ (s : State) (word level operand count : ℕ) where
 
   by-name : (l : Lookup) → nameOf word ≡ l → EndsAsBefore ⊎ EndsPermitted
   unfolding accessOf served
-  by-name NotNamed n = inl (refused notNamed, λ p. omega arith, rw n)
+  by-name NotNamed n = inl (refused notATimerAccess, λ p. omega arith, rw n)
   by-name (Named name) n = by-context name n (impossibleAt s level) refl
 
   pub ways : EndsAsBefore ⊎ EndsPermitted

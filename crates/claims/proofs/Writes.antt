@@ -20,7 +20,8 @@ use Rattle.rules.specs.declared.verdict.Verdict.the-variants.{Undefined, ToEl1,
 use Rattle.rules.specs.Words.{factsOf}
 use Rattle.rules.specs.Names.{isMrs, writtenOperand}
 use Rattle.rules.specs.El2.{cntvoff}
-use Rattle.rules.specs.Timers.{get, put, withTimers}
+use Rattle.rules.specs.Timers.{get, put}
+use Rattle.rules.specs.States.{withTimers}
 use Rattle.rules.specs.Counts.{usedCount}
 use Rattle.rules.specs.Values.{writeTimer, writeOf}
 use Rattle.rules.specs.Verdicts.{verdictOf}

@@ -15,7 +15,8 @@ use Rattle.rules.specs.declared.state.TimerName.{TimerName}
 use Rattle.rules.specs.declared.verdict.Target.{Target}
 use Rattle.rules.specs.Bits.{bits, bit}
 use Rattle.rules.specs.Names.{nameOf, rtOf}
-use Rattle.rules.specs.Timers.{same, get, withTimers}
+use Rattle.rules.specs.Timers.{same, get}
+use Rattle.rules.specs.States.{withTimers}
 use Rattle.rules.specs.Values.{readTval, writeTval}
 use Rattle.rules.specs.Answers.{doneRead}
 use Rattle.rules.specs.Access.{accessOf}

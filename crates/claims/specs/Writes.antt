@@ -11,7 +11,8 @@ use Rattle.rules.specs.declared.verdict.Target.{Target}
 use Rattle.rules.specs.declared.verdict.Target.the-variants.{Cntpct, Cntvct, Cntvoff}
 use Rattle.rules.specs.Words.{factsOf}
 use Rattle.rules.specs.Names.{isMrs, rtOf, writtenOperand}
-use Rattle.rules.specs.Timers.{timerOf, get, put, withTimers, withCntvoff}
+use Rattle.rules.specs.Timers.{timerOf, get, put}
+use Rattle.rules.specs.States.{withTimers, withCntvoff}
 use Rattle.rules.specs.Values.{readOf, writeOf}
 use Rattle.rules.specs.Answers.{done, doneRead, doneWrite}
 use Rattle.rules.specs.Access.{accessOf}

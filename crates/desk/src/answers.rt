@@ -15,7 +15,7 @@ pub const TRAP_TO_EL1: u8 = 2;
 
 pub const TRAP_TO_EL2: u8 = 3;
 
-pub const NOT_NAMED: u8 = 4;
+pub const NOT_A_TIMER_ACCESS: u8 = 4;
 
 pub const IMPOSSIBLE_CONTEXT: u8 = 5;
 

@@ -2,6 +2,7 @@
 ghost use mathlib.Core.Path.{_≡_};
 ghost use Rattle.rules.specs.Context.{impossibleAt};
 ghost use Rattle.rules.specs.Context as rule;
+use gates::cnthctl;
 use gates::el2_on;
 use rules::Features;
 use rules::State;
@@ -12,13 +13,11 @@ pub fn impossible(s: State) -> bool
 {
     let Features { vhe, sel2, ecv } = s.features;
     let controls = s.controls;
-    let cnthctl = controls.cnthctl;
-    let ecv_bit = (cnthctl >> 12) % 2 == 1;
-    let el1tvt = (cnthctl >> 13) % 2 == 1;
-    let el1tvct = (cnthctl >> 14) % 2 == 1;
-    (controls.e2h & !vhe)
-        | (controls.eel2 & !sel2)
-        | ((controls.ecven | ecv_bit | el1tvt | el1tvct) & !ecv)
+    let e2h = controls.e2h;
+    let eel2 = controls.eel2;
+    let ecven = controls.ecven;
+    let h = cnthctl(s);
+    (e2h & !vhe) | (eel2 & !sel2) | ((ecven | h.ecv | h.el1tvt | h.el1tvct) & !ecv)
 }
 
 pub fn impossible_at(s: State, level: u8) -> bool

@@ -4,7 +4,7 @@ ghost use Rattle.rules.specs.Names.{writtenOperand};
 ghost use Rattle.rules.specs.Access.{served, accessOf};
 ghost use Rattle.rules.specs.Access as rule;
 use crate::answers::IMPOSSIBLE_CONTEXT;
-use crate::answers::NOT_NAMED;
+use crate::answers::NOT_A_TIMER_ACCESS;
 use crate::answers::TRAP_TO_EL1;
 use crate::answers::TRAP_TO_EL2;
 use crate::answers::as_before;
@@ -83,7 +83,7 @@ pub fn access(s: State, word: u32, level: u8, operand: u64, physical: u64) -> Ou
 {
     let found = Register::named_by(word);
     match found {
-        Lookup::NotNamed => as_before(s, refused(NOT_NAMED)),
+        Lookup::NotNamed => as_before(s, refused(NOT_A_TIMER_ACCESS)),
         Lookup::Named(name) => named(s, word, level, operand, physical, name),
     }
 }

@@ -9,6 +9,7 @@ use rules::Facts;
 use rules::Target;
 use rules::Verdict;
 
+// EL1PCTEN stands for both EL1 bits of CNTP's rules: E2H has already picked its place.
 pub fn cntpct(f: Facts) -> Verdict
     ensures { λ r. ⌜ r ≡ gate.cntpct f ⌝ }
 {

@@ -1,7 +1,8 @@
 // The words and bits of document 01, read off a state at a level.
 ghost use mathlib.Core.Path.{_≡_};
-ghost use Rattle.rules.specs.Bits.{bit, cntkctlOf, cnthctlOf};
+ghost use Rattle.rules.specs.Bits.{bit, cntkctlOf};
 ghost use Rattle.rules.specs.Words.{on, offsetOn, factsOf};
+ghost use Rattle.rules.specs.Words as words;
 ghost use mathlib.Core.Bool.{cond};
 use rules::Cnthctl;
 use rules::Cntkctl;
@@ -31,10 +32,12 @@ fn el1pcten(e2h: bool, x: u32) -> bool
     }
 }
 
-fn cnthctl(e2h: bool, x: u32) -> Cnthctl
-    ensures { λ r. ⌜ r ≡ cnthctlOf e2h x ⌝ }
+pub fn cnthctl(s: State) -> Cnthctl
+    ensures { λ r. ⌜ r ≡ words.cnthctl s ⌝ }
 {
-    let el1pcten = el1pcten(e2h, x);
+    let controls = s.controls;
+    let x = controls.cnthctl;
+    let el1pcten = el1pcten(controls.e2h, x);
     Cnthctl {
         el0pcten: (x >> 0) % 2 == 1,
         el0vcten: (x >> 1) % 2 == 1,
@@ -69,7 +72,7 @@ pub fn facts(s: State, level: u8) -> Facts
     let secure = !controls.ns | (level == 3);
     let on = el2_on(s);
     let cntkctl = cntkctl(controls.cntkctl);
-    let cnthctl = cnthctl(e2h, controls.cnthctl);
+    let cnthctl = cnthctl(s);
     let host = on & e2h & tge;
     let offset = ecv & on & ecven & cnthctl.ecv & !host;
     Facts {

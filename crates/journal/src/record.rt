@@ -65,7 +65,7 @@ fn wide(x: u8) -> u64
     x as u64
 }
 
-// A word that is one field.
+// A word that is one field. It holds the low 64 bits of its value, which are all of them: the name is where that is proved.
 fn whole(x: u64) -> u64
     ensures { λ r. ⌜ r ≡ packed (field 64 x ∷ []) ⌝ }
 {

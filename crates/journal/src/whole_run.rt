@@ -13,9 +13,9 @@ use rules::State;
 // The most records that a journal may have.
 const LIMIT: usize = 1024;
 
-const JOURNAL_REFUSED: u8 = 7;
+const BAD_JOURNAL: u8 = 7;
 
-const BUFFER_REFUSED: u8 = 8;
+const BUFFER_TOO_SHORT: u8 = 8;
 
 // One record served: its answer goes into its own 24 bytes of the buffer, and the rest of the buffer stays.
 fn turn(s: State, journal: &[u8], answers: &mut [u8], at: usize) -> State
@@ -56,13 +56,13 @@ pub fn run(s: State, journal: &[u8], answers: &mut [u8]) -> Run
     let bad = (journal.len() % 24 != 0) | (LIMIT < records);
     if bad {
         return Run {
-            number: JOURNAL_REFUSED,
+            number: BAD_JOURNAL,
             next: s,
         };
     }
     if short {
         return Run {
-            number: BUFFER_REFUSED,
+            number: BUFFER_TOO_SHORT,
             next: s,
         };
     }

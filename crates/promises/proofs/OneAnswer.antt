@@ -22,6 +22,7 @@ each-promise =
       isMrs = λ κs a x y e d. both-are;
       rt = λ κs a x y e d. both-are;
       facts = λ κs a x y e d. both-are;
+      cnthctl = λ κs a x y e d. both-are;
       el2On = λ κs a x y e d. both-are;
       offsetOn = λ κs a x y e d. both-are;
       verdict = λ κs a x y e d. both-are;

@@ -19,6 +19,7 @@ use Rattle.registers.proofs.register.Register.named_by as registers-named-by
 use Rattle.registers.proofs.is_mrs as registers-is-mrs
 use Rattle.registers.proofs.rt as registers-rt
 use Rattle.gates.proofs.facts as gates-facts
+use Rattle.gates.proofs.cnthctl as gates-cnthctl
 use Rattle.gates.proofs.el2_on as gates-el2-on
 use Rattle.gates.proofs.offset_on as gates-offset-on
 use Rattle.gates.proofs.verdict as gates-verdict
@@ -60,6 +61,7 @@ pub record EachPromise : Type 0 where
   pub isMrs : OneResult 0 registers-is-mrs.Kinds.ps registers-is-mrs.Kinds.r registers-is-mrs.Reads.Learnt
   pub rt : OneResult 0 registers-rt.Kinds.ps registers-rt.Kinds.r registers-rt.Reads.Learnt
   pub facts : OneResult 0 gates-facts.Kinds.ps gates-facts.Kinds.r gates-facts.Reads.Learnt
+  pub cnthctl : OneResult 0 gates-cnthctl.Kinds.ps gates-cnthctl.Kinds.r gates-cnthctl.Reads.Learnt
   pub el2On : OneResult 0 gates-el2-on.Kinds.ps gates-el2-on.Kinds.r gates-el2-on.Reads.Learnt
   pub offsetOn : OneResult 0 gates-offset-on.Kinds.ps gates-offset-on.Kinds.r gates-offset-on.Reads.Learnt
   pub verdict : OneResult 0 gates-verdict.Kinds.ps gates-verdict.Kinds.r gates-verdict.Reads.Learnt

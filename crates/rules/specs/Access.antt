@@ -13,7 +13,7 @@ use Rattle.rules.specs.Words.{factsOf}
 use Rattle.rules.specs.Names.{nameOf, isMrs, rtOf, writtenOperand}
 use Rattle.rules.specs.Verdicts.{verdictOf}
 use Rattle.rules.specs.Values.{readOf, writeOf}
-use Rattle.rules.specs.Answers.{trapToEl1, trapToEl2, notNamed, impossibleContext, doneRead, doneWrite, undefinedAt, trapped, refused, asBefore}
+use Rattle.rules.specs.Answers.{trapToEl1, trapToEl2, notATimerAccess, impossibleContext, doneRead, doneWrite, undefinedAt, trapped, refused, asBefore}
 use Rattle.rules.specs.Context.{impossibleAt}
 
 -- Below, f are the facts of the state s at the access's level, and physical is the access's count.
@@ -34,7 +34,7 @@ ruled f s word operand physical (Reaches target) = permitted f s word operand ph
 
 -- what a word that was looked up comes to: 4, 5, then the rules
 unfoldable pub served : State → ℕ → ℕ → ℕ → ℕ → Lookup → Outcome
-served s word level operand physical NotNamed = asBefore s (refused notNamed)
+served s word level operand physical NotNamed = asBefore s (refused notATimerAccess)
 served s word level operand physical (Named name) =
     cond (impossibleAt s level)
     (asBefore s (refused impossibleContext))

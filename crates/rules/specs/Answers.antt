@@ -22,8 +22,8 @@ abbrev pub trapToEl2 : ℕ
 trapToEl2 = 3
 
 -- 4, not MRS/MSR, or not in the name table
-abbrev pub notNamed : ℕ
-notNamed = 4
+abbrev pub notATimerAccess : ℕ
+notATimerAccess = 4
 
 -- 5, impossible context
 abbrev pub impossibleContext : ℕ

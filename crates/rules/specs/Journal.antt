@@ -66,26 +66,26 @@ answersOf s journal (suc n) =
     answersOf s journal n ++ answerBytes (recordServed (stateAfter s journal n) (recordAt journal (n * recordBytes)) .answer)
 
 -- 7, journal not a whole number of records, or over 1,024; 8, answer buffer shorter than the journal
-abbrev pub journalRefused : ℕ
-journalRefused = 7
+abbrev pub badJournal : ℕ
+badJournal = 7
 
-abbrev pub bufferRefused : ℕ
-bufferRefused = 8
+abbrev pub bufferTooShort : ℕ
+bufferTooShort = 8
 
-abbrev pub badJournal : List ℕ → Bool
-badJournal journal = not (eqb (length journal % recordBytes) 0) || ltb limit (length journal / recordBytes)
+abbrev pub isBadJournal : List ℕ → Bool
+isBadJournal journal = not (eqb (length journal % recordBytes) 0) || ltb limit (length journal / recordBytes)
 
-abbrev pub shortBuffer : List ℕ → List ℕ → Bool
-shortBuffer journal buffer = ltb (length buffer) (length journal)
+abbrev pub isBufferTooShort : List ℕ → List ℕ → Bool
+isBufferTooShort journal buffer = ltb (length buffer) (length journal)
 
 -- order: 7, 8; a run not refused with 7 or 8 answers 0 itself
 abbrev pub runNumber : List ℕ → List ℕ → ℕ
-runNumber journal buffer = cond (badJournal journal) journalRefused (cond (shortBuffer journal buffer) bufferRefused done)
+runNumber journal buffer = cond (isBadJournal journal) badJournal (cond (isBufferTooShort journal buffer) bufferTooShort done)
 
 -- how many records are served: a refused run serves none
 abbrev pub turns : List ℕ → List ℕ → ℕ
 turns journal buffer =
-    cond (badJournal journal) 0 (cond (shortBuffer journal buffer) 0 (length journal / recordBytes))
+    cond (isBadJournal journal) 0 (cond (isBufferTooShort journal buffer) 0 (length journal / recordBytes))
 
 -- the run: its number and the state after it
 unfoldable pub runOf : State → List ℕ → List ℕ → Run

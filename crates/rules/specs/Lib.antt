@@ -10,6 +10,7 @@ pub mod El2
 pub mod Verdicts
 pub mod Arithmetic
 pub mod Timers
+pub mod States
 pub mod Counts
 pub mod Values
 pub mod Answers

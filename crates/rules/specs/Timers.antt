@@ -2,7 +2,6 @@
 use Prim.Native.Nat.{ℕ}
 use mathlib.Core.Bool.{Bool, cond}
 use lib.Dec.{eqb}
-use Rattle.rules.specs.declared.state.State.{State}
 use Rattle.rules.specs.declared.state.Timers.{Timers}
 use Rattle.rules.specs.declared.state.Timer.{Timer}
 use Rattle.rules.specs.declared.state.TimerName.{TimerName}
@@ -38,10 +37,3 @@ six x = record { cntp = x Cntp; cntv = x Cntv; cnthp = x Cnthp; cnthv = x Cnthv;
 -- the six with x in the place of t, the others as they are
 abbrev pub put : Timers → TimerName → Timer → Timers
 put ts t x = six (λ u. cond (same t u) x (get ts u))
-
--- a state with other timers, and with another CNTVOFF
-abbrev pub withTimers : State → Timers → State
-withTimers s ts = record { features = s .features; controls = s .controls; cntvoff = s .cntvoff; cntpoff = s .cntpoff; timers = ts }
-
-abbrev pub withCntvoff : State → ℕ → State
-withCntvoff s x = record { features = s .features; controls = s .controls; cntvoff = x; cntpoff = s .cntpoff; timers = s .timers }

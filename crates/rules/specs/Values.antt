@@ -14,7 +14,8 @@ use Rattle.rules.specs.declared.verdict.Target.{Target}
 use Rattle.rules.specs.declared.verdict.Target.the-variants.{Cntpct, Cntvct, Cntvoff}
 use Rattle.rules.specs.Bits.{bit}
 use Rattle.rules.specs.Arithmetic.{_plus_, _less_, signed32}
-use Rattle.rules.specs.Timers.{timerOf, get, put, withTimers, withCntvoff}
+use Rattle.rules.specs.Timers.{timerOf, get, put}
+use Rattle.rules.specs.States.{withTimers, withCntvoff}
 use Rattle.rules.specs.Counts.{physicalSeen, virtualSeen, usedCount, conditionCount}
 
 -- a value whose bits are all known

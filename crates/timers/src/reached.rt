@@ -1,13 +1,14 @@
 // What a register that was reached reads as, and what a write of it leaves.
 ghost use mathlib.Core.Path.{_≡_};
-ghost use Rattle.rules.specs.Timers.{withCntvoff};
-ghost use Rattle.rules.specs.Values.{known, readOf, writeOf};
+ghost use Rattle.rules.specs.States.{withCntvoff};
+ghost use Rattle.rules.specs.Values.{readOf, writeOf};
 use crate::counts::count_of;
 use crate::counts::offset_seen;
 use crate::counts::physical_seen;
 use crate::counts::virtual_seen;
 use crate::six::get;
 use crate::six::put;
+use crate::timer::known;
 use crate::timer::read_timer;
 use crate::timer::write_timer;
 use rules::Facts;
@@ -16,12 +17,6 @@ use rules::State;
 use rules::Target;
 use rules::TimerName;
 use rules::Value;
-
-fn whole(value: u64) -> Value
-    ensures { λ r. ⌜ r ≡ known value ⌝ }
-{
-    Value { value, mask: 0 }
-}
 
 fn read_part(f: Facts, s: State, physical: u64, t: TimerName, p: Part) -> Value
     ensures { λ r. ⌜ r ≡ readOf f s physical (Target.Timer t p) ⌝ }
@@ -38,9 +33,9 @@ pub fn read(f: Facts, s: State, physical: u64, target: Target) -> Value
     ensures { λ r. ⌜ r ≡ readOf f s physical target ⌝ }
 {
     match target {
-        Target::Cntpct => whole(physical_seen(f, s, physical)),
-        Target::Cntvct => whole(virtual_seen(f, s, physical)),
-        Target::Cntvoff => whole(s.cntvoff),
+        Target::Cntpct => known(physical_seen(f, s, physical)),
+        Target::Cntvct => known(virtual_seen(f, s, physical)),
+        Target::Cntvoff => known(s.cntvoff),
         Target::Timer(t, p) => read_part(f, s, physical, t, p),
     }
 }

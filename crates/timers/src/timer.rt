@@ -11,6 +11,13 @@ use rules::Part;
 use rules::Timer;
 use rules::Value;
 
+// A value whose bits are all known.
+pub fn known(value: u64) -> Value
+    ensures { λ r. ⌜ r ≡ rule.known value ⌝ }
+{
+    Value { value, mask: 0 }
+}
+
 // Both unsigned.
 pub fn met(t: Timer, condition: u64) -> bool
     ensures { λ r. ⌜ r ≡ rule.met t condition ⌝ }
@@ -32,10 +39,7 @@ fn read_tval(t: Timer, used: u64) -> Value
     let cval = t.cval;
     let enable = t.enable;
     if enable {
-        Value {
-            value: sub(cval, used),
-            mask: 0,
-        }
+        known(sub(cval, used))
     } else {
         Value {
             value: 0,
@@ -95,10 +99,7 @@ pub fn read_timer(t: Timer, p: Part, used: u64, condition: u64) -> Value
     match p {
         Part::Tval => read_tval(t, used),
         Part::Ctl => read_ctl(t, condition),
-        Part::Cval => Value {
-            value: t.cval,
-            mask: 0,
-        },
+        Part::Cval => known(t.cval),
     }
 }
 

@@ -11,8 +11,8 @@ enum-told c = search needs
 physical-seen-requires : tie.Need-physical-seen-requires
 physical-seen-requires c κs = search needs
 
-whole-requires : tie.Need-whole-requires
-whole-requires c κs = search needs
+known-requires : tie.Need-known-requires
+known-requires c κs = search needs
 
 enum-told-2 : tie.Need-enum-told-2
 enum-told-2 c = search needs
@@ -20,14 +20,14 @@ enum-told-2 c = search needs
 virtual-seen-requires : tie.Need-virtual-seen-requires
 virtual-seen-requires c κs = search needs
 
-whole-requires-2 : tie.Need-whole-requires-2
-whole-requires-2 c κs = search needs
+known-requires-2 : tie.Need-known-requires-2
+known-requires-2 c κs = search needs
 
 enum-told-3 : tie.Need-enum-told-3
 enum-told-3 c = search needs
 
-whole-requires-3 : tie.Need-whole-requires-3
-whole-requires-3 c κs = search needs
+known-requires-3 : tie.Need-known-requires-3
+known-requires-3 c κs = search needs
 
 enum-known-target : tie.Need-enum-known-target
 enum-known-target c = search needs
@@ -37,15 +37,15 @@ read-part-requires c κs = search needs
 
 returns : tie.Need-returns
 unfolding readOf
-returns c = rw (c .before .before .enum-told .given .1, ← c .before .physical-seen .ensures) (c .whole .ensures)
+returns c = rw (c .before .before .enum-told .given .1, ← c .before .physical-seen .ensures) (c .known .ensures)
 
 returns-2 : tie.Need-returns-2
 unfolding readOf
-returns-2 c = rw (c .before .before .enum-told2 .given .1, ← c .before .virtual-seen .ensures) (c .whole2 .ensures)
+returns-2 c = rw (c .before .before .enum-told2 .given .1, ← c .before .virtual-seen .ensures) (c .known2 .ensures)
 
 returns-3 : tie.Need-returns-3
 unfolding readOf
-returns-3 c = rw (c .before .enum-told3 .given .1) (c .whole3 .ensures)
+returns-3 c = rw (c .before .enum-told3 .given .1) (c .known3 .ensures)
 
 returns-4 : tie.Need-returns-4
 returns-4 c = rw (c .before .before .target .given .1) (c .read-part .ensures)
@@ -56,12 +56,12 @@ read-spec =
     (tie.spec
     enum-told
     physical-seen-requires
-    whole-requires
+    known-requires
     enum-told-2
     virtual-seen-requires
-    whole-requires-2
+    known-requires-2
     enum-told-3
-    whole-requires-3
+    known-requires-3
     enum-known-target
     read-part-requires
     returns

@@ -20,6 +20,9 @@ read-ctl-requires c κs = search needs
 enum-told-3 : tie.Need-enum-told-3
 enum-told-3 c = search needs
 
+known-requires : tie.Need-known-requires
+known-requires c κs = search needs
+
 returns : tie.Need-returns
 unfolding readTimer
 returns c = rw (c .before .enum-told .given .1) (c .read-tval .ensures)
@@ -30,7 +33,7 @@ returns-2 c = rw (c .before .enum-told2 .given .1) (c .read-ctl .ensures)
 
 returns-3 : tie.Need-returns-3
 unfolding readTimer
-returns-3 c = rw (c .enum-told3 .given .1)
+returns-3 c = rw (c .before .enum-told3 .given .1) (c .known .ensures)
 
 pub read-timer-spec : {M : Type 1} → statement M
 read-timer-spec =
@@ -41,6 +44,7 @@ read-timer-spec =
     enum-told-2
     read-ctl-requires
     enum-told-3
+    known-requires
     returns
     returns-2
     returns-3)
