@@ -15,6 +15,7 @@ mod numbers;
 mod program;
 mod seed;
 mod states;
+mod workers;
 
 pub use campaign::{Campaign, Captured};
 pub use case::{Case, Kind, KINDS};
