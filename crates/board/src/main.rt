@@ -6,19 +6,15 @@ use libc::STDIN_FILENO;
 use libc::STDOUT_FILENO;
 use start_state::start;
 
-fn write_first(bytes: &[u8], n: usize) {
-    if n <= bytes.len() {
-        io::write_all(STDOUT_FILENO, &bytes[0..n]);
-    }
-}
+// Twice the longest journal, so that it is the run that refuses a longer one, and not the end of a buffer.
+const ROOM: usize = 2 * 1024 * 24;
 
 fn main() {
-    // One byte more than the longest journal, by which a longer one is known.
-    let mut input = [0u8; 24577];
+    let mut input = [0u8; ROOM];
+    let mut answers = [0u8; ROOM];
     let n = io::read_full(STDIN_FILENO, &mut input);
-    let mut answers = [0u8; 24576];
-    let ran = journal::run(start(), &input[..n], &mut answers);
+    let ran = journal::run(start(), &input[0..n], &mut answers);
     if ran.number == 0 {
-        write_first(&answers, n);
+        io::write_all(STDOUT_FILENO, &answers[0..n]);
     }
 }

@@ -1,12 +1,17 @@
 // The test bench: any state and a journal in; answers, final state and lines out (docs/FORMATS.md).
 mod image;
 
+ghost use Prim.Native.Nat.{_≤_};
+ghost use lib.ListN.{length};
 use image::read_state;
 use image::write_state;
 use libc::STDIN_FILENO;
 use libc::STDOUT_FILENO;
 use rules::Lines;
 use rules::State;
+
+// An image and twice the longest journal, so that it is the run that refuses a longer one, and not the end of a buffer.
+const ROOM: usize = 128 + 2 * 1024 * 24;
 
 fn flag(on: bool, weight: u8) -> u8 {
     if on { weight } else { 0 }
@@ -27,19 +32,14 @@ fn report(next: State, count: u64) {
     io::write_all(STDOUT_FILENO, &lines);
 }
 
-fn write_first(bytes: &[u8], n: usize) {
-    if n <= bytes.len() {
-        io::write_all(STDOUT_FILENO, &bytes[0..n]);
-    }
-}
-
-fn answer(state: State, journal: &[u8]) {
-    let mut answers = [0u8; 24576];
-    let ran = journal::run(state, journal, &mut answers);
+fn answer(state: State, journal: &[u8], answers: &mut [u8])
+    requires { ⌜ length (now journal) ≤ length (now answers) ⌝ }
+{
     let n = journal.len();
+    let ran = journal::run(state, journal, answers);
     let next = ran.next;
     if ran.number == 0 {
-        write_first(&answers, n);
+        io::write_all(STDOUT_FILENO, &answers[0..n]);
         report(next, journal::last_count(journal));
     } else {
         report(next, 0);
@@ -47,12 +47,12 @@ fn answer(state: State, journal: &[u8]) {
 }
 
 fn main() {
-    // One byte more than an image and the longest journal.
-    let mut input = [0u8; 24705];
+    let mut input = [0u8; ROOM];
+    let mut answers = [0u8; ROOM];
     let n = io::read_full(STDIN_FILENO, &mut input);
     if n < 128 {
         return;
     }
     let state = read_state(&input[0..128]);
-    answer(state, &input[128..n]);
+    answer(state, &input[128..n], &mut answers);
 }

@@ -1,9 +1,6 @@
 //! Many cases in a row, run against a program and kept.
 
 use std::collections::HashSet;
-use std::num::NonZero;
-use std::sync::atomic::{AtomicU64, Ordering};
-use std::thread;
 
 use reading::{Slip, Tally};
 
@@ -11,6 +8,7 @@ use crate::case::{Case, Kind};
 use crate::difference::{explain, Output};
 use crate::expected::expected;
 use crate::program::{Program, Ran};
+use crate::workers::shared_out;
 
 /// How many differing cases are told of in full.
 const TOLD: usize = 3;
@@ -39,53 +37,19 @@ impl Captured {
         Ok(Captured { case, ran })
     }
 
-    /// How the output differs from the expected one, in words. A program that did not end well
-    /// differs whatever it wrote.
+    /// How the output differs from the expected one, in words, or how the program ended badly.
     pub fn difference(&self, expected: Output) -> Option<String> {
         let told = explain(&self.case, expected, self.ran.by_program());
-        if told.is_none() && self.ran.status.success() {
-            return None;
-        }
-        let head = || format!("case {:#018X} ended badly:\n", self.case.seed);
-        let (by, status, errors) = (&self.ran.by, self.ran.status, self.ran.errors.trim());
-        Some(told.unwrap_or_else(head) + &format!("  {by}: {status}. {errors}\n"))
+        self.ran.with_its_end(self.case.seed, told)
     }
 }
 
 impl Campaign {
     /// Runs `length` cases, of the seeds from `seed` on.
     pub fn run(program: &Program, seed: u64, length: u64) -> Result<Campaign, String> {
-        let workers = thread::available_parallelism().map_or(1, NonZero::get);
-        let next = AtomicU64::new(0);
-        let work = || Campaign::take_turns(program, seed, length, &next);
-        let parts: Result<Vec<_>, String> = thread::scope(|scope| {
-            let workers: Vec<_> = (0..workers).map(|_| scope.spawn(work)).collect();
-            let panicked = || Err("a worker panicked".to_string());
-            workers
-                .into_iter()
-                .map(|worker| worker.join().unwrap_or_else(|_| panicked()))
-                .collect()
-        });
-        let mut captured: Vec<Captured> = parts?.into_iter().flatten().collect();
-        captured.sort_by_key(|captured| captured.case.seed.wrapping_sub(seed));
+        let seeds: Vec<u64> = (0..length).map(|place| seed.wrapping_add(place)).collect();
+        let captured = shared_out(&seeds, |&seed| Captured::of(program, seed))?;
         Ok(Campaign { captured, seed })
-    }
-
-    /// Captures one case after the other, each the next that no worker has taken.
-    fn take_turns(
-        program: &Program,
-        seed: u64,
-        length: u64,
-        next: &AtomicU64,
-    ) -> Result<Vec<Captured>, String> {
-        let mut captured = Vec::new();
-        loop {
-            let place = next.fetch_add(1, Ordering::Relaxed);
-            if place >= length {
-                return Ok(captured);
-            }
-            captured.push(Captured::of(program, seed.wrapping_add(place))?);
-        }
     }
 
     /// The clauses that decided and the records answered, or the differences in words.
@@ -130,7 +94,7 @@ impl Campaign {
     }
 }
 
-fn all_agree(mut told: Vec<String>) -> Result<(), String> {
+pub(crate) fn all_agree(mut told: Vec<String>) -> Result<(), String> {
     match told.len() {
         0 => Ok(()),
         differing => {

@@ -1,6 +1,6 @@
 //! Differences between what was expected and what was written, in words.
 
-use reading::{Answer, Lines, State, IMAGE_BYTES, RECORD_BYTES};
+use reading::{Answer, Lines, State, IMAGE_BYTES};
 use scribe::words;
 
 use crate::case::Case;
@@ -15,68 +15,74 @@ pub struct Output<'a> {
     pub bytes: &'a [u8],
 }
 
-/// The parts of an output: answers, final state image, number and lines.
-struct Parts<'a> {
+/// The end of an output: final state image, number and lines.
+struct End<'a> {
     by: &'a str,
-    answers: &'a [[u8; RECORD_BYTES]],
     image: &'a [u8; IMAGE_BYTES],
     lines: Lines,
 }
 
-impl<'a> Parts<'a> {
-    fn of(output: Output<'a>) -> Option<Parts<'a>> {
-        let (rest, &[number, raised]) = output.bytes.split_last_chunk::<2>()?;
-        let (answers, image) = rest.split_last_chunk::<IMAGE_BYTES>()?;
-        match answers.as_chunks() {
-            (answers, []) => Some(Parts {
-                by: output.by,
-                answers,
-                image,
-                lines: Lines { number, raised },
-            }),
-            _ => None,
-        }
+impl<'a> Output<'a> {
+    /// What was written before the end, and the end.
+    fn parts(self) -> Option<(Output<'a>, End<'a>)> {
+        let by = self.by;
+        let (rest, &[number, raised]) = self.bytes.split_last_chunk::<2>()?;
+        let (bytes, image) = rest.split_last_chunk::<IMAGE_BYTES>()?;
+        let lines = Lines { number, raised };
+        Some((Output { by, bytes }, End { by, image, lines }))
     }
 }
 
 /// What differs, or nothing if the two outputs are the same bytes.
 pub fn explain(case: &Case, expected: Output, found: Output) -> Option<String> {
+    let head = format!("case {:#018X} ({:?})", case.seed, case.kind);
+    explain_parts(&head, expected, found, |expected, found| {
+        answers(case, expected, found)
+    })
+}
+
+/// The same for any output that ends in a state and the lines, with words of its own for what
+/// stands before them.
+pub(crate) fn explain_parts(
+    head: &str,
+    expected: Output,
+    found: Output,
+    before_the_end: impl Fn(Output, Output) -> String,
+) -> Option<String> {
     if expected.bytes == found.bytes {
         return None;
     }
-    let mut told = format!("case {:#018X} ({:?}) differs:\n", case.seed, case.kind);
-    match (Parts::of(expected), Parts::of(found)) {
-        (Some(expected), Some(found)) if expected.answers.len() == found.answers.len() => {
-            told += &answers(case, &expected, &found);
-            told += &states(&expected, &found);
-            told += &lines(&expected, &found);
+    let told = match (expected.parts(), found.parts()) {
+        (Some((wanted, our)), Some((written, their)))
+            if wanted.bytes.len() == written.bytes.len() =>
+        {
+            before_the_end(wanted, written) + &states(&our, &their) + &lines(&our, &their)
         }
-        _ => {
-            told += &format!(
-                "  {} wrote {} bytes where {} were expected\n",
-                found.by,
-                found.bytes.len(),
-                expected.bytes.len()
-            );
-        }
-    }
-    Some(told)
+        _ => format!(
+            "  {} wrote {} bytes where {} were expected\n",
+            found.by,
+            found.bytes.len(),
+            expected.bytes.len()
+        ),
+    };
+    Some(format!("{head} differs:\n{told}"))
 }
 
-fn answers(case: &Case, expected: &Parts, found: &Parts) -> String {
+fn answers(case: &Case, expected: Output, found: Output) -> String {
     let records = case.records();
-    let differing: Vec<usize> = (0..expected.answers.len())
-        .filter(|&place| expected.answers[place] != found.answers[place])
+    let [wanted, written] = [expected, found].map(|output| output.bytes.as_chunks().0);
+    let differing: Vec<usize> = (0..wanted.len())
+        .filter(|&place| wanted[place] != written[place])
         .collect();
     let width = 1 + expected.by.len().max(found.by.len());
     let mut told = String::new();
     for &place in differing.iter().take(TOLD) {
         let record = &records[place];
         told += &format!("  record {place}: {}\n", words::record(record));
-        for parts in [expected, found] {
-            let answer = Answer::unpack(&parts.answers[place]);
+        for (by, answers) in [(expected.by, wanted), (found.by, written)] {
+            let answer = Answer::unpack(&answers[place]);
             let answer = words::answer(&answer, record.access.word);
-            told += &format!("    {:<width$} {answer}\n", format!("{}:", parts.by));
+            told += &format!("    {:<width$} {answer}\n", format!("{by}:"));
         }
     }
     if differing.len() > TOLD {
@@ -85,12 +91,12 @@ fn answers(case: &Case, expected: &Parts, found: &Parts) -> String {
     told
 }
 
-fn states(expected: &Parts, found: &Parts) -> String {
+fn states(expected: &End, found: &End) -> String {
     if expected.image == found.image {
         return String::new();
     }
     let by = (expected.by, found.by);
-    let states = [expected, found].map(|parts| State::from_image(parts.image));
+    let states = [expected, found].map(|end| State::from_image(end.image));
     match states {
         [Ok(expected), Ok(found)] => fields(by, &expected, &found),
         [_, Err(error)] => format!("  final state: {} wrote no image, {error}\n", by.1),
@@ -109,11 +115,11 @@ fn fields(by: (&str, &str), expected: &State, found: &State) -> String {
         .collect()
 }
 
-fn lines(expected: &Parts, found: &Parts) -> String {
+fn lines(expected: &End, found: &End) -> String {
     if expected.lines == found.lines {
         return String::new();
     }
-    let [wants, has] = [expected, found].map(|parts| words::lines(&parts.lines));
+    let [wants, has] = [expected, found].map(|end| words::lines(&end.lines));
     format!("  lines: {} {wants}; {} {has}\n", expected.by, found.by)
 }
 
@@ -121,7 +127,7 @@ fn lines(expected: &Parts, found: &Parts) -> String {
 mod tests {
     use super::*;
     use crate::expected::expected;
-    use reading::Slip;
+    use reading::{Slip, RECORD_BYTES};
 
     const ORDINARY: u64 = 7;
 

@@ -15,6 +15,18 @@ pub struct Expected {
 }
 
 impl Expected {
+    /// What is written first, and then the final state, and the number and the lines at the count
+    /// of the last record that was served.
+    pub(crate) fn of(mut reading: Reading, first: Vec<u8>, served: &[u8]) -> Expected {
+        let lines = reading.lines(last_count(served));
+        let end = [lines.number, lines.raised];
+        Expected {
+            output: [&first[..], &reading.state.to_image(), &end].concat(),
+            tally: reading.tally,
+            answered: served.len() / RECORD_BYTES,
+        }
+    }
+
     /// The bytes as the second reading's.
     pub fn by_reading(&self) -> Output<'_> {
         Output {
@@ -31,20 +43,13 @@ pub fn expected(case: &Case, slip: Slip) -> Expected {
         return Expected::default();
     }
     let mut reading = Reading::slipped(case.state, slip);
-    let mut output = vec![0; case.journal.len()];
-    let (count, answered) = match reading.run(&case.journal, &mut output) {
-        0 => (last_count(&case.journal), case.journal.len() / RECORD_BYTES),
-        _ => (0, 0),
+    let mut answers = vec![0; case.journal.len()];
+    let served = match reading.run(&case.journal, &mut answers) {
+        0 => &case.journal[..],
+        _ => &[],
     };
-    output.truncate(answered * RECORD_BYTES);
-    output.extend(reading.state.to_image());
-    let lines = reading.lines(count);
-    output.extend([lines.number, lines.raised]);
-    Expected {
-        output,
-        tally: reading.tally,
-        answered,
-    }
+    answers.truncate(served.len());
+    Expected::of(reading, answers, served)
 }
 
 /// The count of the last record, refused or not; 0 if there is none.

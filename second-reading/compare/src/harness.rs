@@ -1,7 +1,9 @@
-//! What the comparisons share that run without the test harness: how they end, and how much they
-//! have to compare.
+//! What the comparisons share that run without the test harness: how they end, how much they have
+//! to compare, and that they catch every slip.
 
 use std::process::ExitCode;
+
+use reading::Slip;
 
 /// The exit code of a comparison; a failure is told first.
 pub fn ended(compared: Result<(), String>) -> ExitCode {
@@ -33,6 +35,22 @@ impl Least {
     }
 }
 
+/// Every slip has to make a difference; `catches` has the place of the first case that shows one.
+pub fn catch_each(slips: &[Slip], catches: impl Fn(Slip) -> Option<usize>) -> Result<(), String> {
+    println!("{} slips, and the case that catches each", slips.len());
+    let mut missed = Vec::new();
+    for &slip in slips {
+        match catches(slip) {
+            Some(place) => println!("{slip:<72} case {place:>4}", slip = slip.to_string()),
+            None => missed.push(slip.to_string()),
+        }
+    }
+    match missed.as_slice() {
+        [] => Ok(()),
+        missed => Err(format!("slips not caught: {missed:#?}")),
+    }
+}
+
 #[cfg(test)]
 mod tests {
     use super::*;
@@ -46,5 +64,15 @@ mod tests {
         assert_eq!(least.met_by(3, 40), Ok(()));
         assert!(least.met_by(2, 40).is_err());
         assert!(least.met_by(3, 39).is_err());
+    }
+
+    #[test]
+    fn a_slip_that_makes_no_difference_is_named() {
+        let slips = [Slip::LimitOneLess, Slip::LimitOneMore];
+        assert_eq!(catch_each(&slips, |_| Some(3)), Ok(()));
+        let missed = catch_each(&slips, |slip| (slip == slips[0]).then_some(3));
+        assert!(missed.is_err_and(|missed| {
+            missed.contains(&slips[1].to_string()) && !missed.contains(&slips[0].to_string())
+        }));
     }
 }

@@ -46,6 +46,17 @@ impl Ran {
             bytes: &self.output,
         }
     }
+
+    /// The difference that was found on a case, with how the program ended. One that did not end
+    /// well differs whatever it wrote.
+    pub(crate) fn with_its_end(&self, seed: u64, difference: Option<String>) -> Option<String> {
+        if difference.is_none() && self.status.success() {
+            return None;
+        }
+        let head = || format!("case {seed:#018X} ended badly:\n");
+        let (by, status, errors) = (&self.by, self.status, self.errors.trim());
+        Some(difference.unwrap_or_else(head) + &format!("  {by}: {status}. {errors}\n"))
+    }
 }
 
 impl Program {
@@ -58,14 +69,22 @@ impl Program {
     }
 
     /// `bench`, the C program with the archive linked in, from BENCH or from where its build
-    /// leaves it. It takes a journal in one of two ways, `run` or `access`.
+    /// leaves it. It takes a journal in one of three ways: `run`, `access`, or `lend` with the
+    /// length of the buffer.
     pub fn bench(way: &str) -> Result<Program, String> {
-        let mut command = Program::found("BENCH", "target/link/bench")?;
-        command.push(way.into());
-        Ok(Program {
-            name: format!("bench {way}"),
-            command,
-        })
+        let bench = Program {
+            name: "bench".to_string(),
+            command: Program::found("BENCH", "target/link/bench")?,
+        };
+        Ok(bench.with(way))
+    }
+
+    /// The program with one more argument.
+    pub(crate) fn with(&self, argument: &str) -> Program {
+        Program {
+            name: format!("{} {argument}", self.name),
+            command: [&self.command[..], &[argument.into()]].concat(),
+        }
     }
 
     /// The command line for the program that an environment variable names, or else for the one

@@ -14,7 +14,8 @@ pub enum Scope {
     Calls(&'static [Register], &'static [Direction]),
     /// For each of these timers.
     Timers(&'static [TimerName]),
-    /// No journal given to a program can reach it.
+    /// No journal given to a program can reach it: it takes a lent buffer, or a level that no
+    /// record holds.
     OutsideJournals,
 }
 
@@ -222,6 +223,7 @@ impl Clause {
     /// The clauses whose absence a [`Slip`](crate::Slip) can play.
     pub const GATES: &'static [Clause] = &[
         Clause::JournalRagged,
+        Clause::BufferShort,
         Clause::ReservedBit,
         Clause::E2hWithoutVhe,
         Clause::Eel2WithoutSel2,

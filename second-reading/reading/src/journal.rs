@@ -84,6 +84,9 @@ impl Reading {
     pub fn run(&mut self, journal: &[u8], answers: &mut [u8]) -> u8 {
         if let Some((number, clause)) = self.run_refusal(journal.len(), answers.len()) {
             self.note(clause, Cell::Whole);
+            if self.slip == Slip::RefusalClearsBuffer {
+                answers.fill(0);
+            }
             return number;
         }
         self.note(Clause::RunDone, Cell::Whole);
@@ -101,6 +104,9 @@ impl Reading {
                 break;
             }
         }
+        if self.slip == Slip::RestOfBufferCleared {
+            answers[journal.len()..].fill(0);
+        }
         0
     }
 
@@ -111,11 +117,17 @@ impl Reading {
             _ => RECORD_LIMIT,
         };
         let ragged = !journal.is_multiple_of(RECORD_BYTES);
-        if ragged && self.stands(Clause::JournalRagged) {
+        let short = match self.slip {
+            Slip::BufferHasToBeLonger => answers <= journal,
+            _ => answers < journal && self.stands(Clause::BufferShort),
+        };
+        if short && self.slip == Slip::BufferBeforeJournal {
+            Some((8, Clause::BufferShort))
+        } else if ragged && self.stands(Clause::JournalRagged) {
             Some((7, Clause::JournalRagged))
         } else if journal > limit * RECORD_BYTES {
             Some((7, Clause::JournalTooLong))
-        } else if answers < journal {
+        } else if short {
             Some((8, Clause::BufferShort))
         } else {
             None

@@ -75,6 +75,11 @@ slips! {
     LimitOneMore "a limit of 1,025 records";
     RefusalEndsRun "a refused record stops the run";
 
+    BufferBeforeJournal "8 before 7";
+    BufferHasToBeLonger "a buffer just as long as the journal refused";
+    RefusalClearsBuffer "the buffer cleared by 7 and 8";
+    RestOfBufferCleared "the bytes after the last answer cleared";
+
     UndefinedToAll "an impostor that says Undefined to all";
     SixHundredToAll "an impostor that answers 600 to all";
     NothingStored "an impostor that never stores a write";
@@ -92,6 +97,18 @@ impl Slip {
             .chain(left_out)
             .chain(moved)
             .collect()
+    }
+
+    /// Whether it is one of the lent buffer, which no journal given to a program can show.
+    pub fn is_of_the_buffer(&self) -> bool {
+        matches!(
+            self,
+            Slip::LeftOut(Clause::BufferShort)
+                | Slip::BufferBeforeJournal
+                | Slip::BufferHasToBeLonger
+                | Slip::RefusalClearsBuffer
+                | Slip::RestOfBufferCleared
+        )
     }
 }
 

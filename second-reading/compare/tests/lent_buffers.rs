@@ -1,0 +1,41 @@
+//! The lent buffer, of any length: a C program with the archive linked in lends it, and its number,
+//! every one of its bytes and the state have to be the second reading's. A fixed seed, a fresh
+//! seed, and every slip of the buffer.
+
+use std::process::ExitCode;
+use std::time::Instant;
+
+use compare::{catch_each, ended, fresh_seed, Loans, Program, KINDS};
+use reading::Slip;
+
+const FIXED_SEED: u64 = 0xB0FF_E2D0_1E4D_5C00;
+const CASES: u64 = 2 * KINDS;
+
+fn main() -> ExitCode {
+    ended(compare_all())
+}
+
+fn compare_all() -> Result<(), String> {
+    let bench = Program::bench("lend")?;
+    let fixed = stretch(&bench, "fixed", FIXED_SEED)?;
+    stretch(&bench, "fresh", fresh_seed()?)?;
+    let slips: Vec<Slip> = Slip::all()
+        .into_iter()
+        .filter(Slip::is_of_the_buffer)
+        .collect();
+    catch_each(&slips, |slip| fixed.catches(slip))
+}
+
+fn stretch(bench: &Program, name: &str, seed: u64) -> Result<Loans, String> {
+    println!("{name} seed {seed:#018X}: {CASES} cases");
+    let begun = Instant::now();
+    let loans = Loans::run(bench, seed, CASES)?;
+    let met = loans.compare()?;
+    let (count, seconds) = (loans.count(), begun.elapsed().as_secs_f32());
+    println!("agreed on {count} lent buffers in {seconds:.1} s\n");
+    println!("what decided at each length\n{}", met.table());
+    match met.missing().as_slice() {
+        [] => Ok(loans),
+        missing => Err(format!("never met, seed {seed:#018X}: {missing:?}")),
+    }
+}
