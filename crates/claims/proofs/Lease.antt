@@ -170,7 +170,7 @@ not-early-not-late : NotEarlyNotLate
 not-early-not-late s v x fits lease =
     let from : UpFrom s (v plus signed32 x) = up-from s (v plus signed32 x) lease in
     record {
-      ahead = λ n a h. subst (UpFrom s) (ahead-from x n (a .low) (a .small) v h) from;
+      ahead = λ n a h. subst (UpFrom s) (ahead-from x n (a .low) (a .small) v h ∙ omega arith) from;
       back = λ k b h.
           let is : UpFrom s (v - k) = subst (UpFrom s) (back-from x k (b .low) (b .small) v fits h) from in
           (is, λ physical later. is .up physical (omega arith));
@@ -246,7 +246,7 @@ tval-tells-the-truth =
     record {
       reads = λ s v x a lease r. cntv-read s a Tval r ∙ rw (lease .cntv) (ap (doneRead (rtOf (a .word))) (left-at (v plus signed32 x) (virtualAt s (a .count))));
       signed = λ v x w fits. ⊎-elim (λ h. small-signed (ticksLeft v x w) h) (λ h. large-signed (ticksLeft v x w) (h .0) (h .1)) fits;
-      ahead = λ v x n w f a h k. left-ahead x n (a .low) (a .small) v w f h k;
+      ahead = λ v x n w f a h k. left-ahead x n (a .low) (a .small) v w f h k ∙ omega arith;
       over = λ v x n w f a h. left-over x n (a .low) (a .small) v w f h;
       back = λ v x k w f b h i. left-back x k (b .low) (b .small) v w f h i;
     }

@@ -35,8 +35,8 @@ empty : (word number rt : ℕ) → number ≤ 5 → (number ≤ 3 → rt ≡ rtO
 empty word number rt upTo5 upTo3 from4 =
     record {
       upTo5 = upTo5;
-      upTo3 = upTo3;
-      from4 = from4;
+      upTo3 = λ h. upTo3 (omega arith);
+      from4 = λ h. from4 (omega arith);
       notDone = λ h. (refl, refl);
       written = λ h. (refl, refl);
     }
@@ -118,7 +118,7 @@ module _ (s : State) (journal answers : List ℕ) where
   run-gets =
       record {
         ragged = λ h. gets-7 (ragged h);
-        tooLong = λ h. gets-7 (too-long h (eqb (length journal % 24) 0) refl);
+        tooLong = λ h. gets-7 (too-long (omega arith) (eqb (length journal % 24) 0) refl);
         tooShort = λ h k short. rw (good h k, lt-ltb (length answers) (length journal) short);
         served = λ h k long. rw (good h k, le-ltb (length answers) (length journal) long);
       }

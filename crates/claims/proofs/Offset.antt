@@ -79,6 +79,6 @@ pub who-sees-cntpoff : WhoSeesCntpoff
 who-sees-cntpoff s a r =
     let given : serve accessOf s a .answer ≡ doneRead (rtOf (a .word)) (readOf (factsOf s (a .level)) s (a .count) Cntpct) = reads-give s (a .word) (a .level) (a .operand) (a .count) Cntpct (r .read) (r .permitted) in
     record {
-      offset = λ h o. given ∙ by-test s a true (seen s (a .level) h o);
+      offset = λ h o. given ∙ by-test s a true (seen s (a .level) (omega arith) o);
       physical = λ h. given ∙ by-test s a false (unseen s (a .level) h);
     }
