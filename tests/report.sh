@@ -1,15 +1,14 @@
 # shellcheck shell=bash
-# How a test reports: `check` says of each thing whether it is as it should be, and `failed` is 1 once one was not.
+# How a test reports: `check` says `ok` or `FAIL` of each thing, and `failed` is 1 once one was not as it should be.
 failed=0
 
 # check WHAT COMMAND..: the command succeeds
 check() {
-    local what=$1
+    local what=$1 verdict='ok  '
     shift
-    if "$@"; then
-        echo "$(basename "$0"): $what: as it should be"
-    else
-        echo "$(basename "$0"): $what: NOT as it should be"
+    "$@" || {
+        verdict=FAIL
         failed=1
-    fi
+    }
+    echo "$verdict $(basename "$0"): $what"
 }

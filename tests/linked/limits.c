@@ -14,7 +14,7 @@ static const uint32_t MSR_CNTV_TVAL_X1 = 0xD51BE301;
 static int failed;
 
 static void check(const char *what, bool holds) {
-    printf("linked: %s: %sas it should be\n", what, holds ? "" : "NOT ");
+    printf("%s linked: %s\n", holds ? "ok  " : "FAIL", what);
     failed |= !holds;
 }
 

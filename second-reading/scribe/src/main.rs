@@ -6,7 +6,7 @@ use std::io::{self, Read, Write};
 use std::process::ExitCode;
 
 use reading::{RECORD_BYTES, RECORD_LIMIT};
-use scribe::show;
+use scribe::{show, Entry};
 
 const HELP: &str = "\
 scribe: access journals as text
@@ -23,9 +23,16 @@ usage:
       line; the operand is 0 then. Rt 31 is XZR. Numbers are decimal or 0x. A
       record may end in `RESERVED bits`. `#` begins a comment.
 
-  scribe show [--journal FILE] [--answers FILE] [--state FILE]
+  scribe show [--journal FILE | --text FILE] [--answers FILE] [--state FILE]
       Prints them in words: a journal and its answers side by side, then the
-      state image field by field. One FILE may be `-`, standard input.
+      state image field by field. One FILE may be `-`, standard input. With
+      --text the journal is a text, and the comment in a record's line stands
+      beside its answer.
+
+  scribe kind [FILE]
+      Prints `text` or `bytes`, which is what a journal is written in. A text is
+      UTF-8 with no control character but tabs and the ends of lines. Each record
+      in bytes has zeros, unless it is refused with 6.
 
   scribe --help
 
@@ -46,6 +53,9 @@ fn main() -> ExitCode {
         ["--help" | "-h"] => Ok(HELP.as_bytes().to_vec()),
         ["pack"] => pack("-"),
         ["pack", file] if !file.starts_with("--") => pack(file),
+        ["kind"] => kind("-"),
+        ["kind", file] if !file.starts_with("--") => kind(file),
+        ["show"] => Err(Failure::Usage("nothing to show".to_string())),
         ["show", options @ ..] => show_files(options),
         [] => Err(Failure::Usage("a command is missing".to_string())),
         _ => Err(Failure::Usage(format!(
@@ -67,10 +77,8 @@ fn main() -> ExitCode {
 }
 
 fn pack(file: &str) -> Result<Vec<u8>, Failure> {
-    let name = if file == "-" { "<stdin>" } else { file };
-    let text = String::from_utf8(read(file)?)
-        .map_err(|_| Failure::Input(format!("{name}: the text is not UTF-8")))?;
-    let journal = scribe::pack(&text).map_err(|fault| Failure::Input(format!("{name}:{fault}")))?;
+    let text = read_text(file)?;
+    let journal = scribe::journal_of(&entries(file, &text)?);
     let records = journal.len() / RECORD_BYTES;
     if records > RECORD_LIMIT {
         eprintln!("scribe: note: {records} records; a run refuses over {RECORD_LIMIT} with 7");
@@ -78,35 +86,99 @@ fn pack(file: &str) -> Result<Vec<u8>, Failure> {
     Ok(journal)
 }
 
-fn show_files(options: &[&str]) -> Result<Vec<u8>, Failure> {
-    let (mut journal, mut answers, mut state) = (None, None, None);
-    for option in options.chunks(2) {
-        let (place, file) = match option {
-            ["--journal", file] => (&mut journal, file),
-            ["--answers", file] => (&mut answers, file),
-            ["--state", file] => (&mut state, file),
-            other => {
-                let message = format!("cannot make sense of `show {}`", other.join(" "));
-                return Err(Failure::Usage(message));
-            }
-        };
-        if place.replace(read(file)?).is_some() {
-            return Err(Failure::Usage(format!("`{}` stands twice", option[0])));
-        }
-    }
-    let records = match (journal, answers) {
-        (Some(journal), Some(answers)) => show::side_by_side(&journal, &answers),
-        (Some(journal), None) => show::journal(&journal),
-        (None, Some(answers)) => show::answers(&answers),
-        (None, None) if state.is_none() => {
-            return Err(Failure::Usage("nothing to show".to_string()));
-        }
-        (None, None) => Ok(String::new()),
+fn kind(file: &str) -> Result<Vec<u8>, Failure> {
+    let kind = if scribe::is_text(&read(file)?) {
+        "text\n"
+    } else {
+        "bytes\n"
     };
-    let state = state.map_or(Ok(String::new()), |image| show::state(&image));
-    let unshowable = |error: show::Unshowable| Failure::Input(format!("scribe: {error}"));
-    let shown = records.map_err(unshowable)? + &state.map_err(unshowable)?;
-    Ok(shown.into_bytes())
+    Ok(kind.into())
+}
+
+/// The files that `show` is asked for.
+#[derive(Default)]
+struct Asked<'a> {
+    journal: Option<&'a str>,
+    text: Option<&'a str>,
+    answers: Option<&'a str>,
+    state: Option<&'a str>,
+}
+
+impl<'a> Asked<'a> {
+    fn by(options: &[&'a str]) -> Result<Asked<'a>, Failure> {
+        let mut asked = Asked::default();
+        for option in options.chunks(2) {
+            let (place, file) = match option {
+                ["--journal", file] => (&mut asked.journal, file),
+                ["--text", file] => (&mut asked.text, file),
+                ["--answers", file] => (&mut asked.answers, file),
+                ["--state", file] => (&mut asked.state, file),
+                other => {
+                    let message = format!("cannot make sense of `show {}`", other.join(" "));
+                    return Err(Failure::Usage(message));
+                }
+            };
+            if place.replace(*file).is_some() {
+                return Err(Failure::Usage(format!("`{}` stands twice", option[0])));
+            }
+        }
+        Ok(asked)
+    }
+}
+
+fn show_files(options: &[&str]) -> Result<Vec<u8>, Failure> {
+    let asked = Asked::by(options)?;
+    let records = match (asked.journal, asked.text, asked.answers) {
+        (Some(_), Some(_), _) => {
+            let message = "the journal stands twice, in bytes and as text".to_string();
+            return Err(Failure::Usage(message));
+        }
+        (Some(journal), None, answers) => show_journal(&read(journal)?, answers)?,
+        (None, Some(text), answers) => show_text(text, answers)?,
+        (None, None, Some(answers)) => show::answers(&read(answers)?).map_err(unshowable)?,
+        (None, None, None) => String::new(),
+    };
+    let state = match asked.state {
+        Some(state) => show::state(&read(state)?).map_err(unshowable)?,
+        None => String::new(),
+    };
+    Ok((records + &state).into_bytes())
+}
+
+fn show_journal(journal: &[u8], answers: Option<&str>) -> Result<String, Failure> {
+    match answers {
+        Some(answers) => show::side_by_side(journal, &read(answers)?),
+        None => show::journal(journal),
+    }
+    .map_err(unshowable)
+}
+
+fn show_text(file: &str, answers: Option<&str>) -> Result<String, Failure> {
+    let text = read_text(file)?;
+    let entries = entries(file, &text)?;
+    let shown = show_journal(&scribe::journal_of(&entries), answers)?;
+    Ok(show::with_comments(&shown, &entries))
+}
+
+fn unshowable(error: show::Unshowable) -> Failure {
+    Failure::Input(format!("scribe: {error}"))
+}
+
+/// What a fault in the text of a file is told with.
+fn name_of(file: &str) -> &str {
+    match file {
+        "-" => "<stdin>",
+        _ => file,
+    }
+}
+
+fn read_text(file: &str) -> Result<String, Failure> {
+    String::from_utf8(read(file)?)
+        .map_err(|_| Failure::Input(format!("{}: the text is not UTF-8", name_of(file))))
+}
+
+fn entries<'a>(file: &str, text: &'a str) -> Result<Vec<Entry<'a>>, Failure> {
+    scribe::entries(text).map_err(|fault| Failure::Input(format!("{}:{fault}", name_of(file))))
 }
 
 fn read(file: &str) -> Result<Vec<u8>, Failure> {

@@ -15,7 +15,14 @@ use std::fmt;
 
 use reading::{Access, Direction, Instruction, Record, Register};
 
-use crate::scan::{tokens, Token};
+use crate::scan::{comment, tokens, Token};
+
+/// A record of a text, with the comment that stands behind it in its line.
+#[derive(Clone, Debug, PartialEq, Eq)]
+pub struct Entry<'a> {
+    pub record: Record,
+    pub comment: Option<&'a str>,
+}
 
 /// What is wrong with a text, and where. Lines and columns count from 1.
 #[derive(Clone, Debug, PartialEq, Eq)]
@@ -39,18 +46,30 @@ struct FaultInLine {
 
 type Parsed<T> = Result<T, FaultInLine>;
 
-/// The journal a text describes.
-pub fn pack(text: &str) -> Result<Vec<u8>, Fault> {
-    let mut journal = Vec::new();
+/// The records a text describes.
+pub fn entries(text: &str) -> Result<Vec<Entry<'_>>, Fault> {
+    let mut entries = Vec::new();
     for (index, line) in text.lines().enumerate() {
         let record = parse_line(line).map_err(|fault| Fault {
             line: index + 1,
             column: fault.column,
             message: fault.message,
         })?;
-        journal.extend(record.iter().flat_map(Record::pack));
+        let comment = comment(line);
+        entries.extend(record.map(|record| Entry { record, comment }));
     }
-    Ok(journal)
+    Ok(entries)
+}
+
+/// The journal of those records.
+pub fn journal_of(entries: &[Entry]) -> Vec<u8> {
+    let packed = entries.iter().flat_map(|entry| entry.record.pack());
+    packed.collect()
+}
+
+/// The journal a text describes.
+pub fn pack(text: &str) -> Result<Vec<u8>, Fault> {
+    entries(text).map(|entries| journal_of(&entries))
 }
 
 fn parse_line(line: &str) -> Parsed<Option<Record>> {
@@ -292,6 +311,17 @@ mod tests {
         let text = "# a title\n\n  \nEL0 MRS X0, CNTVCT_EL0 @ 1 # at the end\n";
         assert_eq!(pack(text).map(|journal| journal.len()), Ok(24));
         assert_eq!(pack(""), Ok(vec![]));
+    }
+
+    #[test]
+    fn a_comment_stays_with_the_record_of_its_line() {
+        let text = "# a title\nWORD 0 EL0 @ 1 # first\nWORD 0 EL0 @ 2\nWORD 0 EL0 @ 3 # last";
+        let kept = entries(text).expect("three records");
+        let kept: Vec<_> = kept
+            .iter()
+            .map(|entry| (entry.record.access.count, entry.comment))
+            .collect();
+        assert_eq!(kept, [(1, Some("# first")), (2, None), (3, Some("# last"))]);
     }
 
     #[test]

@@ -31,6 +31,11 @@ pub(crate) fn tokens(line: &str) -> (Vec<Token<'_>>, usize) {
     (found, end)
 }
 
+/// The comment of a line, from its `#` on.
+pub(crate) fn comment(line: &str) -> Option<&str> {
+    line.find('#').map(|place| line[place..].trim_end())
+}
+
 fn close_word<'a>(
     text: &'a str,
     start: &mut Option<usize>,
@@ -78,5 +83,10 @@ mod tests {
     fn the_end_is_the_column_after_the_last_token() {
         assert_eq!(tokens("EL1 MRS   # rest"), (tokens("EL1 MRS").0, 8));
         assert_eq!(tokens("# only a comment"), (vec![], 1));
+    }
+    #[test]
+    fn a_comment_is_kept_as_it_is_written() {
+        assert_eq!(comment("EL1 MRS #   a # b \t"), Some("#   a # b"));
+        assert_eq!(comment("EL1 MRS"), None);
     }
 }

@@ -4,7 +4,10 @@ use std::fmt;
 
 use reading::{Answer, ImageError, Record, State, IMAGE_BYTES, RECORD_BYTES};
 
-use crate::words;
+use crate::{words, Entry};
+
+/// Where the column of comments begins at the furthest: a longer line has its comment close behind.
+const WIDEST_COLUMN: usize = 72;
 
 /// Why bytes cannot be shown.
 #[derive(Clone, Debug, PartialEq, Eq)]
@@ -84,6 +87,30 @@ pub fn side_by_side(journal: &[u8], answers: &[u8]) -> Result<String, Unshowable
             format!("{} -> {answer}", words::record(&record))
         },
     )))
+}
+
+/// The lines of a text's records, each with its comment; the comments in one column.
+pub fn with_comments(shown: &str, entries: &[Entry]) -> String {
+    let column = column_of_comments(shown, entries);
+    lines(
+        shown
+            .lines()
+            .zip(entries)
+            .map(|(line, entry)| match entry.comment {
+                Some(comment) => format!("{line:column$}   {comment}"),
+                None => line.to_string(),
+            }),
+    )
+}
+
+fn column_of_comments(shown: &str, entries: &[Entry]) -> usize {
+    let commented = shown.lines().zip(entries);
+    let commented = commented.filter(|(_, entry)| entry.comment.is_some());
+    let widths = commented.map(|(line, _)| line.chars().count());
+    widths
+        .filter(|&width| width <= WIDEST_COLUMN)
+        .max()
+        .unwrap_or_default()
 }
 
 /// A state image, one field a line.

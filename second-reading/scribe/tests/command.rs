@@ -129,6 +129,46 @@ fn a_journal_and_its_answers_stand_side_by_side() {
 }
 
 #[test]
+fn the_comments_of_a_text_stand_beside_its_answers() {
+    let text = "# a title\n\
+                EL1 MRS X0, CNTVCT_EL0 @ 1000 # its count\n\
+                \n\
+                EL1 MRS X0, CNTPCT_EL0 @ 1000   #  a trap  \n\
+                EL1 MRS X3, CNTV_CTL_EL0 @ 1000\n\
+                WORD 0xD53BE000 EL1 @ 1000 # a longer line does not move the column\n\
+                EL1 MSR CNTV_CTL_EL0, XZR @ 1000# over\n";
+    let journal = scribe::pack(text).expect("five records");
+    let answers = Scratch::new("comments.answers", &answers_to(&journal));
+    let shown = done(scribe(
+        &["show", "--text", "-", "--answers", answers.path()],
+        text.as_bytes(),
+    ));
+    assert_eq!(
+        String::from_utf8_lossy(&shown),
+        "EL1 MRS X0, CNTVCT_EL0 @ 1000 -> done 600                  # its count\n\
+         EL1 MRS X0, CNTPCT_EL0 @ 1000 -> trap to EL2, class 0x18   #  a trap\n\
+         EL1 MRS X3, CNTV_CTL_EL0 @ 1000 -> done 0, unknown: ISTATUS\n\
+         WORD 0xD53BE000 EL1 = 0 @ 1000 -> refused, 4: not MRS or MSR, or not in the name table   \
+         # a longer line does not move the column\n\
+         EL1 MSR CNTV_CTL_EL0, XZR = 0 @ 1000 -> done               # over\n"
+    );
+    let shown = done(scribe(&["show", "--text", "-"], b"WORD 0 EL0 @ 1 # alone"));
+    assert_eq!(
+        String::from_utf8_lossy(&shown),
+        "WORD 0x00000000 EL0 = 0 @ 1   # alone\n"
+    );
+}
+
+#[test]
+fn a_journal_is_told_to_be_text_or_bytes() {
+    let text = b"EL1 MRS X0, CNTVCT_EL0 @ 1";
+    assert_eq!(done(scribe(&["kind"], text)), b"text\n");
+    let journal = done(scribe(&["pack"], text));
+    let file = Scratch::new("kind.journal", &journal);
+    assert_eq!(done(scribe(&["kind", file.path()], text)), b"bytes\n");
+}
+
+#[test]
 fn a_refused_run_has_no_answers() {
     let shown = done(scribe(
         &["show", "--answers", "-", "--journal", "/dev/null"],
@@ -179,6 +219,8 @@ fn bad_text_is_told_with_line_and_column_and_nothing_is_written() {
         said.ends_with("bad.txt:1:26: expected `=`, found `@`\n"),
         "{said}"
     );
+    let said = failed(scribe(&["show", "--text", "-"], text), 1);
+    assert!(said.starts_with("<stdin>:3:13: expected"), "{said}");
     let said = failed(scribe(&["pack"], b"EL1 \xFF"), 1);
     assert!(said.contains("UTF-8"), "{said}");
 }
@@ -210,7 +252,10 @@ fn bad_usage_has_its_own_exit_code() {
         &["show"],
         &["show", "--journal"],
         &["show", "journal"],
+        &["show", "--text", "-", "--journal", "/dev/null"],
+        &["show", "--state", "/dev/null", "--state", "/dev/null"],
         &["pack", "--fast"],
+        &["kind", "--fast"],
     ] {
         let said = failed(scribe(arguments, b""), 2);
         assert!(said.contains("--help"), "{said}");

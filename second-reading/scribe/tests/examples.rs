@@ -10,19 +10,22 @@ fn folder() -> PathBuf {
     Path::new(env!("CARGO_MANIFEST_DIR")).join("../../examples")
 }
 
-/// The example's lines side by side with their answers from the start state.
-fn shown(name: &str) -> Vec<String> {
-    let text = fs::read_to_string(folder().join(name)).expect(name);
-    let journal = scribe::pack(&text).unwrap_or_else(|fault| panic!("{name}:{fault}"));
+fn file(name: &str) -> String {
+    fs::read_to_string(folder().join(name)).expect(name)
+}
+
+/// The records of a text side by side with their answers from the start state.
+fn side_by_side(text: &str) -> String {
+    let journal = scribe::pack(text).unwrap_or_else(|fault| panic!("{fault}"));
     let mut answers = vec![0; journal.len()];
     assert_eq!(Reading::new(State::bench()).run(&journal, &mut answers), 0);
-    let shown = show::side_by_side(&journal, &answers).expect(name);
-    shown.lines().map(str::to_string).collect()
+    show::side_by_side(&journal, &answers).expect("whole records")
 }
 
 fn answers(name: &str) -> Vec<String> {
-    let answer = |line: &String| line.split(" -> ").nth(1).map(str::to_string);
-    shown(name).iter().filter_map(answer).collect()
+    let shown = side_by_side(&file(name));
+    let answers = shown.lines().filter_map(|line| line.split(" -> ").nth(1));
+    answers.map(str::to_string).collect()
 }
 
 #[test]
@@ -74,8 +77,14 @@ fn the_readings_give_what_the_bench_gave() {
 
 #[test]
 fn the_lease_gives_the_answers_beside_it() {
-    let foretold = fs::read_to_string(folder().join("lease.answers")).expect("the answers");
-    assert_eq!(shown("lease.txt"), foretold.lines().collect::<Vec<_>>());
+    let text = file("lease.txt");
+    let entries = scribe::entries(&text).expect("a text");
+    let shown = show::with_comments(&side_by_side(&text), &entries);
+    let foretold = file("lease.answers");
+    assert_eq!(
+        shown.lines().collect::<Vec<_>>(),
+        foretold.lines().collect::<Vec<_>>()
+    );
 }
 
 #[test]
