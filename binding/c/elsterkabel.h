@@ -39,6 +39,9 @@ enum elsterkabel_number {
 #define ELSTERKABEL_RECORD_BYTES 24
 #define ELSTERKABEL_RECORD_LIMIT 1024
 
+/* A bool below that holds anything but 0 or 1 is the host's mistake, and then nothing is promised: fill a state field by
+   field, or from zeros, and never from bytes of another origin. In Rust it cannot happen: the binding's types hold Rust's own
+   bool, which safe code can make 0 or 1 alone, and the library stores and returns no other. */
 struct elsterkabel_features {
     bool vhe;
     bool sel2;

@@ -11,7 +11,6 @@ use lib.Dec.{ltb, leb}
 use native.Mathlib.Omega.{arith}
 use borrow.Author.Tests.{le-leb, lt-leb}
 use Rattle.rules.specs.declared.answer.Lines.{Lines}
-use Rattle.rules.specs.declared.answer.Outcome.{Outcome}
 use Rattle.rules.specs.declared.facts.Facts.{Facts}
 use Rattle.rules.specs.declared.name.Part.{Part}
 use Rattle.rules.specs.declared.name.Part.the-variants.{Tval, Ctl}
@@ -23,7 +22,7 @@ use Rattle.rules.specs.declared.state.TimerName.{TimerName}
 use Rattle.rules.specs.declared.state.TimerName.the-variants.{Cntv}
 use Rattle.rules.specs.declared.verdict.Target.{Target}
 use Rattle.rules.specs.Words.{EL3, offsetOn, factsOf}
-use Rattle.rules.specs.Names.{isMrs, rtOf}
+use Rattle.rules.specs.Names.{rtOf}
 use Rattle.rules.specs.Arithmetic.{_plus_, signed32}
 use Rattle.rules.specs.Timers.{same, timerOf, put}
 use Rattle.rules.specs.States.{withTimers}

@@ -2,19 +2,17 @@
 -- constructors of an answer. The numbers of a run follow its two tests, which are arithmetic.
 -- Assumes nothing.
 use Prim.Native.Nat.{ℕ, _*_, _/_, _%_, _<_, _≤_}
-use mathlib.Core.Bool.{Bool, true, false, not, _||_}
+use mathlib.Core.Bool.{Bool, true, false}
 use mathlib.Core.List.{List}
 use mathlib.Core.Path.{_≡_, refl}
 use native.Mathlib.Omega.{arith}
-use lib.Dec.{eqb, ltb}
+use lib.Dec.{eqb}
 use lib.ListN.{length}
 use borrow.Author.Tests.{eq-eqb, ne-eqb, eqb-true, lt-ltb, le-ltb}
-use Rattle.rules.specs.declared.answer.Answer.{Answer}
 use Rattle.rules.specs.declared.facts.Facts.{Facts}
 use Rattle.rules.specs.declared.name.Lookup.{Lookup}
 use Rattle.rules.specs.declared.name.Lookup.the-variants.{Named, NotNamed}
 use Rattle.rules.specs.declared.name.Name.{Name}
-use Rattle.rules.specs.declared.record.Record.{Record}
 use Rattle.rules.specs.declared.state.State.{State}
 use Rattle.rules.specs.declared.verdict.Target.{Target}
 use Rattle.rules.specs.declared.verdict.Verdict.{Verdict}
@@ -22,10 +20,10 @@ use Rattle.rules.specs.declared.verdict.Verdict.the-variants.{Undefined, ToEl1,
 use Rattle.rules.specs.Words.{factsOf}
 use Rattle.rules.specs.Names.{nameOf, isMrs, rtOf}
 use Rattle.rules.specs.Verdicts.{verdictOf}
-use Rattle.rules.specs.Answers.{answer, undefinedAt, trapped, refused}
+use Rattle.rules.specs.Answers.{answer, refused}
 use Rattle.rules.specs.Context.{impossibleAt}
 use Rattle.rules.specs.Access.{permitted, ruled, served, accessOf}
-use Rattle.rules.specs.Journal.{recordServed, isBadJournal, isBufferTooShort, runOf}
+use Rattle.rules.specs.Journal.{recordServed, isBadJournal, runOf}
 use Rattle.claims.specs.Numbers.{AnswerFor, EachAnswer, EachRecord, RunGets, EachRun}
 
 -- ---- an access

@@ -18,7 +18,7 @@ use Rattle.rules.specs.Counts.{offsetSeen}
 use Rattle.rules.specs.Values.{known, readOf}
 use Rattle.rules.specs.Answers.{doneRead}
 use Rattle.rules.specs.Access.{accessOf}
-use Rattle.claims.specs.Desk.{Access, serve, PermittedRead}
+use Rattle.claims.specs.Desk.{Access, serve}
 use Rattle.claims.specs.Offset.{OffsetOn, WhoSeesCntpoff}
 use Rattle.claims.proofs.Grounds.{is-false, on-of, of-on}
 use Rattle.claims.proofs.Writes.{reads-give}

@@ -21,7 +21,7 @@ use Rattle.rules.specs.Words.{factsOf}
 use Rattle.rules.specs.Names.{isMrs, rtOf}
 use Rattle.rules.specs.Timers.{same, get, put}
 use Rattle.rules.specs.States.{withTimers}
-use Rattle.rules.specs.Values.{readTval, writeTval, writeCtl, readTimer, writeTimer, readOf, writeOf}
+use Rattle.rules.specs.Values.{readTval, writeCtl, readTimer, writeTimer, readOf, writeOf}
 use Rattle.rules.specs.Answers.{doneRead}
 use Rattle.rules.specs.Access.{accessOf}
 use Rattle.rules.proofs.Timers.{get-put-same, get-put-other, part-kept}

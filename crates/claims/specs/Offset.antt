@@ -1,5 +1,5 @@
 -- CNTPOFF in plain words: who sees it in the physical count, and who does not.
-use Prim.Native.Nat.{ℕ, _≤_}
+use Prim.Native.Nat.{_≤_}
 use mathlib.Core.Bool.{true}
 use mathlib.Core.Logic.{_⊎_}
 use mathlib.Core.Path.{_≡_}

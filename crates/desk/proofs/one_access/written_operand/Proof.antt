@@ -1,8 +1,6 @@
 -- `written_operand` meets its contract: Rt 31 picks.
 -- Assumes nothing.
 use borrow.Author.Needs.{needs}
-use mathlib.Core.Path.{ap}
-use lib.Dec.{eqb}
 use Rattle.desk.proofs.one_access.written_operand.Statement.{statement}
 use Rattle.desk.proofs.one_access.written_operand.Tie as tie
 
