@@ -9,6 +9,7 @@ use native.Mathlib.Nat.{div-div-eq-div-mul, mul-mod-right}
 use native.Mathlib.Omega.{arith}
 use lib.Dec.{T, eqb, ltb}
 use borrow.Author.Tests.{ltb-true, ltb-false, lt-ltb, eqb-true, eqb-false, eq-eqb, not-true}
+use Rattle.rules.specs.declared.access.Access.{Access}
 use Rattle.rules.specs.declared.name.Lookup.{Lookup}
 use Rattle.rules.specs.declared.name.Lookup.the-variants.{Named, NotNamed}
 use Rattle.rules.specs.declared.name.Name.{Name}
@@ -204,34 +205,34 @@ module _ (s : State) (level : ℕ) where
 
 -- ---- 5, and nothing else ends in it
 
-module _ (s : State) (word level operand count : ℕ) where
-  refused-by : (name : Name) → nameOf word ≡ Named name → GroundAt s level → accessOf s word level operand count .answer .number ≡ 5
+module _ (s : State) (a : Access) where
+  refused-by : (name : Name) → nameOf (a .word) ≡ Named name → GroundAt s (a .level) → accessOf s a .answer .number ≡ 5
   unfolding accessOf served
-  refused-by name n g = rw (n, impossible-at-of s level g)
+  refused-by name n g = rw (n, impossible-at-of s (a .level) g)
 
-  by-verdict : (v : Verdict) → ruled (factsOf s level) s word operand count v .answer .number ≡ 5 → ⊥
+  by-verdict : (v : Verdict) → ruled (factsOf s (a .level)) s a v .answer .number ≡ 5 → ⊥
   unfolding ruled
   by-verdict Undefined e = omega arith
   by-verdict ToEl1 e = omega arith
   by-verdict ToEl2 e = omega arith
   by-verdict (Reaches target) e =
-      let done : permitted (factsOf s level) s word operand count target .answer .number ≡ 0 = permitted-is-done (factsOf s level) s word operand count target in
+      let done : permitted (factsOf s (a .level)) s a target .answer .number ≡ 0 = permitted-is-done (factsOf s (a .level)) s a target in
       omega arith
 
-  by-context : (name : Name) (b : Bool) → impossibleAt s level ≡ b → served s word level operand count (Named name) .answer .number ≡ 5 → GroundAt s level
+  by-context : (name : Name) (b : Bool) → impossibleAt s (a .level) ≡ b → served s a (Named name) .answer .number ≡ 5 → GroundAt s (a .level)
   unfolding served
-  by-context name true i e = of-impossible-at s level i
+  by-context name true i e = of-impossible-at s (a .level) i
   by-context name false i e =
-      absurd (by-verdict (verdictOf (factsOf s level) name (isMrs word)) (rw i at e))
+      absurd (by-verdict (verdictOf (factsOf s (a .level)) name (isMrs (a .word))) (rw i at e))
 
-  by-name : (l : Lookup) → served s word level operand count l .answer .number ≡ 5 → GroundAt s level
+  by-name : (l : Lookup) → served s a l .answer .number ≡ 5 → GroundAt s (a .level)
   unfolding served
   by-name NotNamed e = absurd (omega arith)
-  by-name (Named name) e = by-context name (impossibleAt s level) refl e
+  by-name (Named name) e = by-context name (impossibleAt s (a .level)) refl e
 
-  reason-of : accessOf s word level operand count .answer .number ≡ 5 → GroundAt s level
+  reason-of : accessOf s a .answer .number ≡ 5 → GroundAt s (a .level)
   unfolding accessOf
-  reason-of = by-name (nameOf word)
+  reason-of = by-name (nameOf (a .word))
 
 lines-refused : (s : State) (physical : ℕ) → Ground s → linesOf s physical .number ≡ 5
 unfolding linesOf
@@ -245,7 +246,7 @@ lines-reason s physical false i e = let done : _≡_ {A = ℕ} 0 5 = rw i at e i
 pub five-exactly-when : FiveExactlyWhen
 five-exactly-when =
     record {
-      refused = λ s word level operand count name n g. refused-by s word level operand count name n g;
+      refused = refused-by;
       reason = reason-of;
       linesRefused = lines-refused;
       linesReason = λ s physical. lines-reason s physical (impossible s) refl;

@@ -1,13 +1,14 @@
--- Demand 3. One access of the guest factors through what it may know: the facts, whether the context is impossible, CNTV and
--- the virtual count. Two machines that are alike in these answer alike, and only CNTV moves; they are alike again after it,
--- so the same holds of any sequence.
+-- Demand 3. One access of the guest factors through what it may know: the facts, whether the context is impossible, its own
+-- part and the virtual count. Two machines that are alike in these answer alike, and only that part moves; so they are alike
+-- again after it, and the same holds of any sequence.
 -- Assumes nothing.
 use Prim.Native.Nat.{ℕ}
 use mathlib.Core.Bool.{Bool, true, false, cond, _&&_, _||_}
 use lib.Dec.{eqb}
 use mathlib.Core.List.{List, [], _∷_}
 use mathlib.Core.Logic.{_⊎_, ⊎-elim}
-use mathlib.Core.Path.{_≡_, refl, sym, ap, ap₂, subst, _∙_}
+use mathlib.Core.Path.{_≡_, refl, sym, ap, ap₂, subst, subst₂, _∙_}
+use Rattle.rules.specs.declared.access.Access.{Access}
 use Rattle.rules.specs.declared.answer.Answer.{Answer}
 use Rattle.rules.specs.declared.answer.Outcome.{Outcome}
 use Rattle.rules.specs.declared.facts.Facts.{Facts}
@@ -18,57 +19,57 @@ use Rattle.rules.specs.declared.name.Part.{Part}
 use Rattle.rules.specs.declared.state.Controls.{Controls}
 use Rattle.rules.specs.declared.state.Features.{Features}
 use Rattle.rules.specs.declared.state.State.{State}
-use Rattle.rules.specs.declared.state.Timer.{Timer}
 use Rattle.rules.specs.declared.state.TimerName.{TimerName}
 use Rattle.rules.specs.declared.state.TimerName.the-variants.{Cntv}
 use Rattle.rules.specs.declared.verdict.Target.{Target}
 use Rattle.rules.specs.declared.verdict.Verdict.{Verdict}
 use Rattle.rules.specs.declared.verdict.Verdict.the-variants.{Undefined, ToEl1, ToEl2, Reaches}
 use Rattle.rules.specs.Words.{EL0, EL1, EL2, physicalTrapped, factsOf}
-use Rattle.rules.specs.Names.{nameOf, isMrs, rtOf, writtenOperand}
+use Rattle.rules.specs.Names.{nameOf, isMrs, writtenOperand}
 use Rattle.rules.specs.Verdicts.{verdictOf}
-use Rattle.rules.specs.Timers.{put}
-use Rattle.rules.specs.States.{withTimers}
 use Rattle.rules.specs.Counts.{virtual, virtualSeen, countOf}
 use Rattle.rules.specs.Values.{known, readTimer, writeTimer, readOf, writeOf}
 use Rattle.rules.specs.Answers.{trapToEl1, trapToEl2, notATimerAccess, impossibleContext, doneRead, doneWrite, undefinedAt, trapped, refused}
 use Rattle.rules.specs.Context.{impossible, impossibleAt}
 use Rattle.rules.specs.Access.{permitted, ruled, served, accessOf}
-use Rattle.rules.proofs.Timers.{get-put-other}
-use Rattle.claims.specs.Desk.{Desk, Access, serve}
-use Rattle.claims.specs.Guests.{TrappedGuest, Alike, SameShown, AllShown, OnlyCntvMoved, OneAlike, OneAccess, SequencesAlike, Demand3, GuestClaim}
+use Rattle.claims.specs.Desk.{Desk}
+use Rattle.claims.specs.Guests.{TrappedGuest, Own, own, withOwn, Alike, asSeen, SameShown, AllShown, NothingElseMoved, AlikeAgain, OneAlike, OneAccess, SequencesAlike, Demand3, GuestClaim}
 use Rattle.claims.proofs.GuestGates.{OwnOnly, GuestFacts, guest-facts, own-only, and-false}
 
 -- ---- what the guest may know, and what it gets by it
 
--- an answer, and what CNTV then holds
+-- an answer, and what its own part then holds
 record Seen : Type 0 where
   answer : Answer
-  cntv : Timer
+  left : Own
 
-abbrev seen : Answer → Timer → Seen
-seen a x = record { answer = a; cntv = x }
+abbrev seen : Answer → Own → Seen
+seen answer left = record { answer = answer; left = left }
 
--- by a verdict that lets it reach its own alone; the last case is no such verdict's
-abbrev seenBy : ℕ → ℕ → Timer → ℕ → Verdict → Seen
-seenBy word operand cntv v Undefined = seen (undefinedAt (rtOf word)) cntv
-seenBy word operand cntv v ToEl1 = seen (trapped trapToEl1 (rtOf word)) cntv
-seenBy word operand cntv v ToEl2 = seen (trapped trapToEl2 (rtOf word)) cntv
-seenBy word operand cntv v (Reaches Target.Cntpct) = seen (refused notATimerAccess) cntv
-seenBy word operand cntv v (Reaches Target.Cntvct) = seen (cond (isMrs word) (doneRead (rtOf word) (known v)) (doneWrite (rtOf word))) cntv
-seenBy word operand cntv v (Reaches Target.Cntvoff) = seen (refused notATimerAccess) cntv
-seenBy word operand cntv v (Reaches (Target.Timer t p)) =
-    seen (cond (isMrs word) (doneRead (rtOf word) (readTimer cntv p v v)) (doneWrite (rtOf word)))
-    (cond (isMrs word) cntv (writeTimer cntv p v (writtenOperand word operand)))
+-- a read that is done, or a write
+abbrev doneEither : ℕ → Answer → Answer
+doneEither word read = cond (isMrs word) read (doneWrite word)
 
-abbrev seenOf : Facts → Bool → ℕ → ℕ → Timer → ℕ → Lookup → Seen
-seenOf f impossible word operand cntv v NotNamed = seen (refused notATimerAccess) cntv
-seenOf f impossible word operand cntv v (Named name) =
-    cond impossible (seen (refused impossibleContext) cntv) (seenBy word operand cntv v (verdictOf f name (isMrs word)))
+-- by a verdict that lets it reach its own alone, of an access as the guest sees it; the other cases are no such verdict's
+abbrev seenBy : Access → Own → Verdict → Seen
+seenBy x mine Undefined = seen (undefinedAt (x .word)) mine
+seenBy x mine ToEl1 = seen (trapped trapToEl1 (x .word)) mine
+seenBy x mine ToEl2 = seen (trapped trapToEl2 (x .word)) mine
+seenBy x mine (Reaches Target.Cntpct) = seen (refused notATimerAccess) mine
+seenBy x mine (Reaches Target.Cntvct) = seen (doneEither (x .word) (doneRead (x .word) (known (x .count)))) mine
+seenBy x mine (Reaches Target.Cntvoff) = seen (refused notATimerAccess) mine
+seenBy x mine (Reaches (Target.Timer t p)) =
+    seen (doneEither (x .word) (doneRead (x .word) (readTimer mine p (x .count) (x .count))))
+    (cond (isMrs (x .word)) mine (writeTimer mine p (x .count) (writtenOperand x)))
 
--- on a state, that answer and the state with that CNTV put in
+abbrev seenOf : Facts → Bool → Access → Own → Lookup → Seen
+seenOf f impossible x mine NotNamed = seen (refused notATimerAccess) mine
+seenOf f impossible x mine (Named name) =
+    cond impossible (seen (refused impossibleContext) mine) (seenBy x mine (verdictOf f name (isMrs (x .word))))
+
+-- on a state, that answer and the state with that part put in
 abbrev on : State → Seen → Outcome
-on s x = record { answer = x .answer; next = withTimers s (put (s .timers) Cntv (x .cntv)) }
+on s x = record { answer = x .answer; next = withOwn s (x .left) }
 
 -- ---- one access factors
 
@@ -80,51 +81,51 @@ no-host-no-el2 f g =
 virtual-alone : (f : Facts) (s : State) (count : ℕ) → GuestFacts f → virtualSeen f s count ≡ virtual s count
 virtual-alone f s count g = rw (no-host-no-el2 f g)
 
-module _ (f : Facts) (g : GuestFacts f) (s : State) (word operand count : ℕ) where
-  reached-cntvct : (b : Bool) → isMrs word ≡ b → permitted f s word operand count Target.Cntvct ≡ on s (seenBy word operand (s .timers .cntv) (virtual s count) (Reaches Target.Cntvct))
+module _ (f : Facts) (g : GuestFacts f) (s : State) (a : Access) where
+  reached-cntvct : (b : Bool) → isMrs (a .word) ≡ b → permitted f s a Target.Cntvct ≡ on s (seenBy (asSeen s a) (own s) (Reaches Target.Cntvct))
   unfolding permitted readOf writeOf
-  reached-cntvct true e = rw (e, virtual-alone f s count g)
+  reached-cntvct true e = rw (e, virtual-alone f s (a .count) g)
   reached-cntvct false e = rw e
 
-  reached-cntv : (p : Part) (b : Bool) → isMrs word ≡ b → permitted f s word operand count (Target.Timer Cntv p) ≡ on s (seenBy word operand (s .timers .cntv) (virtual s count) (Reaches (Target.Timer Cntv p)))
+  reached-cntv : (p : Part) (b : Bool) → isMrs (a .word) ≡ b → permitted f s a (Target.Timer Cntv p) ≡ on s (seenBy (asSeen s a) (own s) (Reaches (Target.Timer Cntv p)))
   unfolding permitted readOf writeOf countOf
   reached-cntv p true e = rw e
   reached-cntv p false e = rw e
 
-  ruled-factors : (v : Verdict) → OwnOnly v → ruled f s word operand count v ≡ on s (seenBy word operand (s .timers .cntv) (virtual s count) v)
+  ruled-factors : (v : Verdict) → OwnOnly v → ruled f s a v ≡ on s (seenBy (asSeen s a) (own s) v)
   unfolding ruled
-  ruled-factors Undefined own = refl
-  ruled-factors ToEl1 own = refl
-  ruled-factors ToEl2 own = refl
-  ruled-factors (Reaches Target.Cntpct) own = absurd own
-  ruled-factors (Reaches Target.Cntvct) own = reached-cntvct (isMrs word) refl
-  ruled-factors (Reaches Target.Cntvoff) own = absurd own
-  ruled-factors (Reaches (Target.Timer TimerName.Cntp p)) own = absurd own
-  ruled-factors (Reaches (Target.Timer TimerName.Cntv p)) own = reached-cntv p (isMrs word) refl
-  ruled-factors (Reaches (Target.Timer TimerName.Cnthp p)) own = absurd own
-  ruled-factors (Reaches (Target.Timer TimerName.Cnthv p)) own = absurd own
-  ruled-factors (Reaches (Target.Timer TimerName.Cnthps p)) own = absurd own
-  ruled-factors (Reaches (Target.Timer TimerName.Cnthvs p)) own = absurd own
+  ruled-factors Undefined mine = refl
+  ruled-factors ToEl1 mine = refl
+  ruled-factors ToEl2 mine = refl
+  ruled-factors (Reaches Target.Cntpct) mine = absurd mine
+  ruled-factors (Reaches Target.Cntvct) mine = reached-cntvct (isMrs (a .word)) refl
+  ruled-factors (Reaches Target.Cntvoff) mine = absurd mine
+  ruled-factors (Reaches (Target.Timer TimerName.Cntp p)) mine = absurd mine
+  ruled-factors (Reaches (Target.Timer TimerName.Cntv p)) mine = reached-cntv p (isMrs (a .word)) refl
+  ruled-factors (Reaches (Target.Timer TimerName.Cnthp p)) mine = absurd mine
+  ruled-factors (Reaches (Target.Timer TimerName.Cnthv p)) mine = absurd mine
+  ruled-factors (Reaches (Target.Timer TimerName.Cnthps p)) mine = absurd mine
+  ruled-factors (Reaches (Target.Timer TimerName.Cnthvs p)) mine = absurd mine
 
--- what the guest sees of an access
-abbrev seenAt : State → Access → Seen
-seenAt s a = seenOf (factsOf s (a .level)) (impossibleAt s (a .level)) (a .word) (a .operand) (s .timers .cntv) (virtual s (a .count)) (nameOf (a .word))
+-- what the guest gets for an access as it sees it
+abbrev seenFor : State → Access → Seen
+seenFor s x = seenOf (factsOf s (x .level)) (impossibleAt s (x .level)) x (own s) (nameOf (x .word))
 
 module _ (s : State) (g : TrappedGuest s) (a : Access) (low : (a .level ≡ EL0) ⊎ (a .level ≡ EL1)) where
-  by-context : (name : Name) (b : Bool) → impossibleAt s (a .level) ≡ b → served s (a .word) (a .level) (a .operand) (a .count) (Named name) ≡ on s (seenOf (factsOf s (a .level)) b (a .word) (a .operand) (s .timers .cntv) (virtual s (a .count)) (Named name))
+  by-context : (name : Name) (b : Bool) → impossibleAt s (a .level) ≡ b → served s a (Named name) ≡ on s (seenOf (factsOf s (a .level)) b (asSeen s a) (own s) (Named name))
   unfolding served
   by-context name true e = rw e
   by-context name false e =
       let f : Facts = factsOf s (a .level) in
       let facts : GuestFacts f = guest-facts s (a .level) low g in
-      rw e (ruled-factors f facts s (a .word) (a .operand) (a .count) (verdictOf f name (isMrs (a .word))) (own-only f facts name (isMrs (a .word))))
+      rw e (ruled-factors f facts s a (verdictOf f name (isMrs (a .word))) (own-only f facts name (isMrs (a .word))))
 
-  by-name : (l : Lookup) → served s (a .word) (a .level) (a .operand) (a .count) l ≡ on s (seenOf (factsOf s (a .level)) (impossibleAt s (a .level)) (a .word) (a .operand) (s .timers .cntv) (virtual s (a .count)) l)
+  by-name : (l : Lookup) → served s a l ≡ on s (seenOf (factsOf s (a .level)) (impossibleAt s (a .level)) (asSeen s a) (own s) l)
   unfolding served
   by-name NotNamed = refl
   by-name (Named name) = by-context name (impossibleAt s (a .level)) refl
 
-  factors : serve accessOf s a ≡ on s (seenAt s a)
+  factors : accessOf s a ≡ on s (seenFor s (asSeen s a))
   unfolding accessOf
   factors = by-name (nameOf (a .word))
 
@@ -146,99 +147,83 @@ impossible-alike s t e level =
     ap₂ (λ (f : Features) (c : Controls). impossibleAt (machine f c s) level) (e .features) (e .controls)
 
 -- whether a guest is trapped is a matter of the controls
-pub still-trapped : (s t : State) → s .controls ≡ t .controls → TrappedGuest s → TrappedGuest t
-still-trapped s t e g =
+trapped-too : (s t : State) → Alike s t → TrappedGuest s → TrappedGuest t
+trapped-too s t e g =
     record {
       guest = record {
-        nonsecure = ap (λ (c : Controls). c .ns) (sym e) ∙ g .guest .nonsecure;
-        tge0 = ap (λ (c : Controls). c .tge) (sym e) ∙ g .guest .tge0;
+        nonsecure = ap (λ (c : Controls). c .ns) (sym (e .controls)) ∙ g .guest .nonsecure;
+        tge0 = ap (λ (c : Controls). c .tge) (sym (e .controls)) ∙ g .guest .tge0;
       };
-      trapped = ap (λ (c : Controls). physicalTrapped (machine (s .features) c s)) (sym e) ∙ g .trapped;
+      trapped = ap (λ (c : Controls). physicalTrapped (machine (s .features) c s)) (sym (e .controls)) ∙ g .trapped;
     }
 
-seen-alike : (s t : State) (a b : Access) → Alike s t → SameShown s t a b → seenAt s a ≡ seenAt t b
-seen-alike s t a b e h =
-    rw (h .word, h .level, facts-alike s t e (b .level), impossible-alike s t e (b .level), h .operand, h .count, e .cntv)
-
-moved : (s : State) (x : Seen) → OnlyCntvMoved s (on s x .next)
-moved s x =
-    record {
-      features = refl;
-      controls = refl;
-      cntvoff = refl;
-      cntpoff = refl;
-      others = λ u e. get-put-other (s .timers) Cntv u (x .cntv) e;
-    }
+seen-alike : (s t : State) (x : Access) → Alike s t → seenFor s x ≡ seenFor t x
+seen-alike s t x e = rw (facts-alike s t e (x .level), impossible-alike s t e (x .level), e .own)
 
 pub one-access : OneAccess TrappedGuest accessOf
 one-access s t a b g e h =
-    let here : serve accessOf s a ≡ on s (seenAt s a) = factors s g a (h .el0OrEl1) in
-    let there : serve accessOf t b ≡ on t (seenAt t b) = factors t (still-trapped s t (e .controls) g) b (subst (λ (l : ℕ). (l ≡ EL0) ⊎ (l ≡ EL1)) (h .level) (h .el0OrEl1)) in
-    let alike : seenAt s a ≡ seenAt t b = seen-alike s t a b e h in
+    let low : (b .level ≡ EL0) ⊎ (b .level ≡ EL1) = subst (λ (x : Access). (x .level ≡ EL0) ⊎ (x .level ≡ EL1)) (h .same) (h .el0OrEl1) in
+    let here : accessOf s a ≡ on s (seenFor s (asSeen s a)) = factors s g a (h .el0OrEl1) in
+    let there : accessOf t b ≡ on t (seenFor t (asSeen t b)) = factors t (trapped-too s t e g) b low in
+    let alike : seenFor s (asSeen s a) ≡ seenFor t (asSeen t b) = seen-alike s t (asSeen s a) e ∙ ap (seenFor t) (h .same) in
     record {
       answer = ap (λ (o : Outcome). o .answer) here ∙ ap (λ (x : Seen). x .answer) alike ∙ ap (λ (o : Outcome). o .answer) (sym there);
-      cntv = ap (λ (o : Outcome). o .next .timers .cntv) here ∙ ap (λ (x : Seen). x .cntv) alike ∙ ap (λ (o : Outcome). o .next .timers .cntv) (sym there);
-      here = subst (λ (o : Outcome). OnlyCntvMoved s (o .next)) (sym here) (moved s (seenAt s a));
-      there = subst (λ (o : Outcome). OnlyCntvMoved t (o .next)) (sym there) (moved t (seenAt t b));
+      states = record {
+        own = ap (λ (o : Outcome). own (o .next)) here ∙ ap (λ (x : Seen). x .left) alike ∙ ap (λ (o : Outcome). own (o .next)) (sym there);
+        here = subst (λ (o : Outcome). NothingElseMoved s (o .next)) (sym here) refl;
+        there = subst (λ (o : Outcome). NothingElseMoved t (o .next)) (sym there) refl;
+      };
     }
+
+-- ---- machines that are alike again
+
+pub alike-here : (s t : State) → Alike s t → AlikeAgain s t s t
+alike-here s t e = record { own = e .own; here = refl; there = refl }
+
+moved-on : (s m n : State) → NothingElseMoved s m → NothingElseMoved m n → NothingElseMoved s n
+moved-on s m n p q = q ∙ ap (λ (x : State). withOwn x (own n)) p
+
+pub alike-on : (s t m n s′ t′ : State) → AlikeAgain s t m n → AlikeAgain m n s′ t′ → AlikeAgain s t s′ t′
+alike-on s t m n s′ t′ p q =
+    record { own = q .own; here = moved-on s m s′ (p .here) (q .here); there = moved-on t n t′ (p .there) (q .there) }
+
+-- what is asked of two machines stands whatever their guest's own part holds, if it is the same
+module _ (s t m n : State) (again : AlikeAgain s t m n) where
+  still : (P : State → State → Type 0) → P (withOwn s (own m)) (withOwn t (own n)) → P m n
+  still P = subst₂ P (sym (again .here)) (sym (again .there))
+
+  pub alike-still : Alike s t → Alike m n
+  alike-still e = still Alike (record { features = e .features; controls = e .controls; own = again .own })
+
+  pub trapped-still : TrappedGuest s → TrappedGuest m
+  trapped-still g =
+      still (λ x y. TrappedGuest x) (record { guest = record { nonsecure = g .guest .nonsecure; tge0 = g .guest .tge0 }; trapped = g .trapped })
+
+  pub shown-still : (a b : Access) → SameShown s t a b → SameShown m n a b
+  shown-still a b h =
+      still (λ x y. SameShown x y a b) (record { el0OrEl1 = h .el0OrEl1; same = h .same })
+
+  all-shown-still : (here there : List Access) → AllShown s t here there → AllShown m n here there
+  all-shown-still [] [] h = tt
+  all-shown-still [] (b ∷ bs) h = h
+  all-shown-still (a ∷ rest) [] h = h
+  all-shown-still (a ∷ rest) (b ∷ bs) h = (shown-still a b (h .0), all-shown-still rest bs (h .1))
 
 -- ---- any sequence, of any desk of which one access holds
 
-pub stayed : (s : State) → OnlyCntvMoved s s
-stayed s = record { features = refl; controls = refl; cntvoff = refl; cntpoff = refl; others = λ u e. refl }
-
-pub moved-on : (s m n : State) → OnlyCntvMoved s m → OnlyCntvMoved m n → OnlyCntvMoved s n
-moved-on s m n p q =
-    record {
-      features = q .features ∙ p .features;
-      controls = q .controls ∙ p .controls;
-      cntvoff = q .cntvoff ∙ p .cntvoff;
-      cntpoff = q .cntpoff ∙ p .cntpoff;
-      others = λ u e. q .others u e ∙ p .others u e;
-    }
-
--- what is shown is shown at virtual counts, and no offset has moved
-pub shown-still : (s t m n : State) (a b : Access) → OnlyCntvMoved s m → OnlyCntvMoved t n → SameShown s t a b → SameShown m n a b
-shown-still s t m n a b p q h =
-    record {
-      el0OrEl1 = h .el0OrEl1;
-      word = h .word;
-      level = h .level;
-      operand = h .operand;
-      count = rw (p .cntvoff, q .cntvoff) (h .count);
-    }
-
-pub alike-still : (s t m n : State) → Alike s t → OnlyCntvMoved s m → OnlyCntvMoved t n → m .timers .cntv ≡ n .timers .cntv → Alike m n
-alike-still s t m n e p q cntv =
-    record {
-      features = p .features ∙ e .features ∙ sym (q .features);
-      controls = p .controls ∙ e .controls ∙ sym (q .controls);
-      cntv = cntv;
-    }
-
-all-shown-still : (s t m n : State) → OnlyCntvMoved s m → OnlyCntvMoved t n → (here there : List Access) → AllShown s t here there → AllShown m n here there
-all-shown-still s t m n p q [] [] h = tt
-all-shown-still s t m n p q [] (b ∷ bs) h = h
-all-shown-still s t m n p q (a ∷ rest) [] h = h
-all-shown-still s t m n p q (a ∷ rest) (b ∷ bs) h =
-    (shown-still s t m n a b p q (h .0), all-shown-still s t m n p q rest bs (h .1))
-
 pub any-sequence : (desk : Desk) → OneAccess TrappedGuest desk → Demand3 desk
-any-sequence desk one s t [] [] g e h =
-    record { answers = refl; cntv = e .cntv; here = stayed s; there = stayed t }
+any-sequence desk one s t [] [] g e h = record { answers = refl; states = alike-here s t e }
 any-sequence desk one s t [] (b ∷ bs) g e h = absurd h
 any-sequence desk one s t (a ∷ rest) [] g e h = absurd h
 any-sequence desk one s t (a ∷ rest) (b ∷ bs) g e h =
     let step : OneAlike desk s t a b = one s t a b g e (h .0) in
-    let m : State = serve desk s a .next in
-    let n : State = serve desk t b .next in
-    let alike : Alike m n = alike-still s t m n e (step .here) (step .there) (step .cntv) in
-    let after : SequencesAlike desk m n rest bs = any-sequence desk one m n rest bs (still-trapped s m (sym (step .here .controls)) g) alike (all-shown-still s t m n (step .here) (step .there) rest bs (h .1)) in
+    let m : State = desk s a .next in
+    let n : State = desk t b .next in
+    let again : AlikeAgain s t m n = step .states in
+    let after : SequencesAlike desk m n rest bs = any-sequence desk one m n rest bs (trapped-still s t m n again g) (alike-still s t m n again e) (all-shown-still s t m n again rest bs (h .1)) in
     record {
       answers = ap₂ (λ (x : Answer) (xs : List Answer). x ∷ xs) (step .answer) (after .answers);
-      cntv = after .cntv;
-      here = moved-on s m _ (step .here) (after .here);
-      there = moved-on t n _ (step .there) (after .there);
+      states = alike-on s t m n _ _ again (after .states);
     }
 
 pub guest-claim : GuestClaim

@@ -16,25 +16,22 @@ use Rattle.rules.specs.declared.state.State.{State}
 use Rattle.rules.specs.Access.{accessOf}
 use Rattle.rules.specs.Journal.{recordBytes, recordAt, recordServed, answerBytes, stateAfter, answersOf, runNumber, turns, runOf, bufferAfter}
 use Rattle.rules.proofs.Journal.{answers-length}
-use Rattle.claims.specs.Guests.{TrappedGuest, Alike, OnlyCntvMoved, OneAlike}
-use Rattle.claims.specs.Journals.{accessIn, SameRecord, JournalsShown, byTheRules, RecordsAlike, JournalDemand3, RunsAlike, JournalClaim}
-use Rattle.claims.proofs.Guests.{stayed, moved-on, still-trapped, shown-still, alike-still, one-access}
+use Rattle.claims.specs.Guests.{TrappedGuest, Alike, AlikeAgain, OneAlike}
+use Rattle.claims.specs.Journals.{SameRecord, JournalsShown, byTheRules, RecordsAlike, JournalDemand3, RunsAlike, JournalClaim}
+use Rattle.claims.proofs.Guests.{alike-here, alike-on, alike-still, trapped-still, shown-still, one-access}
 
 -- what one record leaves on two machines
 pub record ServedAlike (s t : State) (x y : Outcome) : Type 0 where
   pub answer : x .answer ≡ y .answer
-  pub cntv : x .next .timers .cntv ≡ y .next .timers .cntv
-  pub here : OnlyCntvMoved s (x .next)
-  pub there : OnlyCntvMoved t (y .next)
+  pub states : AlikeAgain s t (x .next) (y .next)
 
 module _ (s t : State) (g : TrappedGuest s) (e : Alike s t) where
   by-reserved : (r q : Record) → SameRecord s t r q → (b : Bool) → eqb (r .reserved) 0 ≡ b → eqb (q .reserved) 0 ≡ b → ServedAlike s t (recordServed s r) (recordServed t q)
   unfolding recordServed
   by-reserved r q h true p o =
-      let one : OneAlike accessOf s t (accessIn r) (accessIn q) = one-access s t (accessIn r) (accessIn q) g e (h .shown) in
-      rw (p, o) (record { answer = one .answer; cntv = one .cntv; here = one .here; there = one .there })
-  by-reserved r q h false p o =
-      rw (p, o) (record { answer = refl; cntv = e .cntv; here = stayed s; there = stayed t })
+      let one : OneAlike accessOf s t (r .access) (q .access) = one-access s t (r .access) (q .access) g e (h .shown) in
+      rw (p, o) (record { answer = one .answer; states = one .states })
+  by-reserved r q h false p o = rw (p, o) (record { answer = refl; states = alike-here s t e })
 
   pub served-alike : (r q : Record) → SameRecord s t r q → ServedAlike s t (recordServed s r) (recordServed t q)
   served-alike r q h =
@@ -42,21 +39,19 @@ module _ (s t : State) (g : TrappedGuest s) (e : Alike s t) where
 
 records-alike : JournalDemand3 byTheRules
 unfolding stateAfter answersOf
-records-alike s t journal other zero g e h =
-    record { answers = refl; cntv = e .cntv; here = stayed s; there = stayed t }
+records-alike s t journal other zero g e h = record { answers = refl; states = alike-here s t e }
 records-alike s t journal other (suc n) g e h =
     let before : RecordsAlike byTheRules s t journal other n = records-alike s t journal other n g e (λ i l. h i (omega arith)) in
     let m : State = stateAfter s journal n in
     let k : State = stateAfter t other n in
+    let again : AlikeAgain s t m k = before .states in
     let r : Record = recordAt journal (n * recordBytes) in
     let q : Record = recordAt other (n * recordBytes) in
     let shown : SameRecord s t r q = h n (omega arith) in
-    let step : ServedAlike m k (recordServed m r) (recordServed k q) = served-alike m k (still-trapped s m (sym (before .here .controls)) g) (alike-still s t m k e (before .here) (before .there) (before .cntv)) r q (record { reserved = shown .reserved; shown = shown-still s t m k (accessIn r) (accessIn q) (before .here) (before .there) (shown .shown) }) in
+    let step : ServedAlike m k (recordServed m r) (recordServed k q) = served-alike m k (trapped-still s t m k again g) (alike-still s t m k again e) r q (record { reserved = shown .reserved; shown = shown-still s t m k again (r .access) (q .access) (shown .shown) }) in
     record {
       answers = ap₂ (λ (front more : List ℕ). front ++ more) (before .answers) (ap answerBytes (step .answer));
-      cntv = step .cntv;
-      here = moved-on s m _ (before .here) (step .here);
-      there = moved-on t k _ (before .there) (step .there);
+      states = alike-on s t m k _ _ again (step .states);
     }
 
 same-number : (journal other answers buffer : List ℕ) → length journal ≡ length other → length answers ≡ length buffer → runNumber journal answers ≡ runNumber other buffer
@@ -79,9 +74,7 @@ runs-alike s t journal other answers buffer g e j a h =
       number = same-number journal other answers buffer j a;
       answered = rw as-many (answers-in-front s journal _ n ∙ all .answers ∙ sym (answers-in-front t other _ n));
       whole = λ same. rw as-many (ap₂ (λ (front rest : List ℕ). front ++ drop (n * recordBytes) rest) (all .answers) same);
-      cntv = rw as-many (all .cntv);
-      here = all .here;
-      there = subst (λ (m : ℕ). OnlyCntvMoved t (stateAfter t other m)) (sym as-many) (all .there);
+      states = subst (λ (m : ℕ). AlikeAgain s t (stateAfter s journal n) (stateAfter t other m)) (sym as-many) (all .states);
     }
 
 pub journal-claim : JournalClaim

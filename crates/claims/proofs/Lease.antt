@@ -10,6 +10,7 @@ use mathlib.Core.Path.{_≡_, refl, sym, ap, ap₂, subst, _∙_}
 use lib.Dec.{ltb, leb}
 use native.Mathlib.Omega.{arith}
 use borrow.Author.Tests.{le-leb, lt-leb}
+use Rattle.rules.specs.declared.access.Access.{Access}
 use Rattle.rules.specs.declared.answer.Lines.{Lines}
 use Rattle.rules.specs.declared.facts.Facts.{Facts}
 use Rattle.rules.specs.declared.name.Part.{Part}
@@ -22,7 +23,7 @@ use Rattle.rules.specs.declared.state.TimerName.{TimerName}
 use Rattle.rules.specs.declared.state.TimerName.the-variants.{Cntv}
 use Rattle.rules.specs.declared.verdict.Target.{Target}
 use Rattle.rules.specs.Words.{EL3, offsetOn, factsOf}
-use Rattle.rules.specs.Names.{rtOf}
+use Rattle.rules.specs.Names.{writtenOperand}
 use Rattle.rules.specs.Arithmetic.{_plus_, signed32}
 use Rattle.rules.specs.Timers.{same, timerOf, put}
 use Rattle.rules.specs.States.{withTimers}
@@ -34,7 +35,7 @@ use Rattle.rules.specs.Access.{accessOf}
 use Rattle.rules.specs.Lines.{lineOf, linesOf}
 use Rattle.rules.proofs.Timers.{get-put-other}
 use Rattle.rules.proofs.Lease.{value-then-control, control-then-value, raised-at, masked-line, status-at, cntv-count, ahead-from, ahead-wraps, back-from, back-wraps, left-at, left-ahead, left-over, left-back, small-signed, large-signed}
-use Rattle.claims.specs.Desk.{Access, serve, endState, Permitted, PermittedWrite, PermittedRead, taken}
+use Rattle.claims.specs.Desk.{endState, Permitted, PermittedWrite, PermittedRead}
 use Rattle.claims.specs.Guests.{Alike, SequencesAlike}
 use Rattle.claims.specs.Lease.{virtualAt, lineAt, deadlineOf, Lease, Takes, Armed, Renewed, GivenBack, MaskedIsSilent, EndsAtTheDeadline, UpFrom, NotEarlyNotLate, OfTheLease, SameLease, LeftAlone, ticksLeft, TvalTellsTheTruth, ByTheGuestAlone, LeaseKept, LeaseClaim}
 use Rattle.claims.proofs.Guests.{machine, alike-still, any-sequence, one-access}
@@ -45,10 +46,10 @@ use Rattle.claims.proofs.Writes.{timer-written, reads-give}
 -- ---- 1. Armed
 
 -- a permitted write to CNTV: CNTV is written at the virtual count, and the rest stands
-cntv-written : (s : State) (a : Access) (p : Part) → PermittedWrite s a (Target.Timer Cntv p) → serve accessOf s a .next ≡ withTimers s (put (s .timers) Cntv (writeTimer (s .timers .cntv) p (virtualAt s (a .count)) (taken a)))
+cntv-written : (s : State) (a : Access) (p : Part) → PermittedWrite s a (Target.Timer Cntv p) → accessOf s a .next ≡ withTimers s (put (s .timers) Cntv (writeTimer (s .timers .cntv) p (virtualAt s (a .count)) (writtenOperand a)))
 cntv-written s a p w =
     timer-written s a Cntv p w
-    ∙ ap (λ (v : ℕ). withTimers s (put (s .timers) Cntv (writeTimer (s .timers .cntv) p v (taken a)))) (cntv-count (offsetSeen (factsOf s (a .level))) s (a .count))
+    ∙ ap (λ (v : ℕ). withTimers s (put (s .timers) Cntv (writeTimer (s .timers .cntv) p v (writtenOperand a)))) (cntv-count (offsetSeen (factsOf s (a .level))) s (a .count))
 
 -- what was permitted was on a machine that can be
 second-of-four : (a b c d : Bool) → a || b || c || d ≡ false → b ≡ false
@@ -56,13 +57,13 @@ second-of-four true true c d e = e
 second-of-four false true c d e = e
 second-of-four a false c d e = refl
 
-possible : {s : State} {word level : ℕ} {target : Target} → Permitted s word level target → impossible s ≡ false
+possible : {s : State} {a : Access} {target : Target} → Permitted s a target → impossible s ≡ false
 unfolding impossibleAt
-possible {s} {word} {level} {target} p = second-of-four (ltb EL3 level) (impossible s) _ _ (p .possible)
+possible {s} {a} {target} p = second-of-four (ltb EL3 (a .level)) (impossible s) _ _ (p .possible)
 
 module _ (s : State) (a : Access) where
   abbrev next : State
-  next = serve accessOf s a .next
+  next = accessOf s a .next
 
   -- a write of CNTV leaves the machine one that can be, its offset, and what else was permitted
   module _ (p : Part) (w : PermittedWrite s a (Target.Timer Cntv p)) where
@@ -70,7 +71,7 @@ module _ (s : State) (a : Access) where
     unfolding impossible
     still-possible = ap (λ (n : State). impossible n) (cntv-written s a p w) ∙ possible (w .permitted)
 
-    cntv-after : next .timers .cntv ≡ writeTimer (s .timers .cntv) p (virtualAt s (a .count)) (taken a)
+    cntv-after : next .timers .cntv ≡ writeTimer (s .timers .cntv) p (virtualAt s (a .count)) (writtenOperand a)
     cntv-after = ap (λ (n : State). n .timers .cntv) (cntv-written s a p w)
 
     cntvoff-after : next .cntvoff ≡ s .cntvoff
@@ -80,7 +81,7 @@ module _ (s : State) (a : Access) where
     still-permitted b target v =
         record {
           write = v .write;
-          permitted = subst (λ (n : State). Permitted n (b .word) (b .level) target) (sym (cntv-written s a p w)) (whatever-timers _ (v .permitted));
+          permitted = subst (λ (n : State). Permitted n b target) (sym (cntv-written s a p w)) (whatever-timers _ (v .permitted));
         }
 
 module _ (s : State) (value control : Access) (t : Takes s value control) where
@@ -90,7 +91,7 @@ module _ (s : State) (value control : Access) (t : Takes s value control) where
       let then : PermittedWrite (next s value) control (Target.Timer Cntv Ctl) = still-permitted s value Tval (t .tval) control _ (t .ctl) in
       record {
         possible = still-possible (next s value) control Ctl then;
-        cntv = cntv-after (next s value) control Ctl then ∙ rw (cntv-after s value Tval (t .tval)) (value-then-control (s .timers .cntv) (virtualAt s (value .count)) (taken value) (taken control) (t .enable) (t .unmask));
+        cntv = cntv-after (next s value) control Ctl then ∙ rw (cntv-after s value Tval (t .tval)) (value-then-control (s .timers .cntv) (virtualAt s (value .count)) (writtenOperand value) (writtenOperand control) (t .enable) (t .unmask));
       }
 
   control-first : Lease (endState accessOf s (control ∷ value ∷ [])) (deadlineOf s value)
@@ -99,7 +100,7 @@ module _ (s : State) (value control : Access) (t : Takes s value control) where
       let then : PermittedWrite (next s control) value (Target.Timer Cntv Tval) = still-permitted s control Ctl (t .ctl) value _ (t .tval) in
       record {
         possible = still-possible (next s control) value Tval then;
-        cntv = cntv-after (next s control) value Tval then ∙ rw (cntv-after s control Ctl (t .ctl), cntvoff-after s control Ctl (t .ctl)) (control-then-value (s .timers .cntv) (virtualAt s (value .count)) (taken value) (taken control) (t .enable) (t .unmask));
+        cntv = cntv-after (next s control) value Tval then ∙ rw (cntv-after s control Ctl (t .ctl), cntvoff-after s control Ctl (t .ctl)) (control-then-value (s .timers .cntv) (virtualAt s (value .count)) (writtenOperand value) (writtenOperand control) (t .enable) (t .unmask));
       }
 
 armed : Armed
@@ -143,11 +144,11 @@ line-of-lease s deadline lease physical =
     line-is s physical ∙ rw (lease .possible, lease .cntv) (raised-at deadline (virtualAt s physical))
 
 -- what a permitted read of CNTV gives
-cntv-read : (s : State) (a : Access) (p : Part) → PermittedRead s a (Target.Timer Cntv p) → serve accessOf s a .answer ≡ doneRead (rtOf (a .word)) (readTimer (s .timers .cntv) p (virtualAt s (a .count)) (virtualAt s (a .count)))
+cntv-read : (s : State) (a : Access) (p : Part) → PermittedRead s a (Target.Timer Cntv p) → accessOf s a .answer ≡ doneRead (a .word) (readTimer (s .timers .cntv) p (virtualAt s (a .count)) (virtualAt s (a .count)))
 unfolding readOf
 cntv-read s a p r =
     let f : Facts = factsOf s (a .level) in
-    reads-give s (a .word) (a .level) (a .operand) (a .count) (Target.Timer Cntv p) (r .read) (r .permitted)
+    reads-give s a (Target.Timer Cntv p) r
     ∙ rw (cntv-count (offsetSeen f) s (a .count), cntv-count (f .offset) s (a .count))
 
 ends-at-the-deadline : EndsAtTheDeadline
@@ -155,7 +156,7 @@ unfolding readTimer
 ends-at-the-deadline s deadline lease =
     record {
       line = line-of-lease s deadline lease;
-      status = λ a r. cntv-read s a Ctl r ∙ rw (lease .cntv) (ap (doneRead (rtOf (a .word))) (status-at deadline (virtualAt s (a .count))));
+      status = λ a r. cntv-read s a Ctl r ∙ rw (lease .cntv) (ap (doneRead (a .word)) (status-at deadline (virtualAt s (a .count))));
     }
 
 up-from : (s : State) (deadline : ℕ) → Lease s deadline → UpFrom s deadline
@@ -191,9 +192,9 @@ module _ (s t : State) (alike : Alike s t) where
   same-lease : SameLease s t
   same-lease =
       record {
-        timer = alike .cntv;
-        deadline = λ d lease. record { possible = sym impossible-alike ∙ lease .possible; cntv = sym (alike .cntv) ∙ lease .cntv };
-        line = λ p q same. line-is s p ∙ rw (impossible-alike, alike .cntv, same) (sym (line-is t q));
+        timer = alike .own;
+        deadline = λ d lease. record { possible = sym impossible-alike ∙ lease .possible; cntv = sym (alike .own) ∙ lease .cntv };
+        line = λ p q same. line-is s p ∙ rw (impossible-alike, alike .own, same) (sym (line-is t q));
       }
 
 -- what a lease stands on is as it was
@@ -202,7 +203,7 @@ record Kept (old new : State) : Type 0 where
   cntvoff : new .cntvoff ≡ old .cntvoff
 
 kept-here : (s : State) → Kept s s
-kept-here s = record { alike = record { features = refl; controls = refl; cntv = refl }; cntvoff = refl }
+kept-here s = record { alike = record { features = refl; controls = refl; own = refl }; cntvoff = refl }
 
 kept-on : (s m n : State) → Kept s m → Kept m n → Kept s n
 kept-on s m n p q =
@@ -210,7 +211,7 @@ kept-on s m n p q =
       alike = record {
         features = p .alike .features ∙ q .alike .features;
         controls = p .alike .controls ∙ q .alike .controls;
-        cntv = p .alike .cntv ∙ q .alike .cntv;
+        own = p .alike .own ∙ q .alike .own;
       };
       cntvoff = q .cntvoff ∙ p .cntvoff;
     }
@@ -221,7 +222,7 @@ unfolding writeOf
 by-timer f s count t p x true e not-it = absurd (not-it e)
 by-timer f s count t p x false e not-it =
     record {
-      alike = record { features = refl; controls = refl; cntv = sym (get-put-other (s .timers) t Cntv _ e) };
+      alike = record { features = refl; controls = refl; own = sym (get-put-other (s .timers) t Cntv _ e) };
       cntvoff = refl;
     }
 
@@ -243,7 +244,7 @@ tval-tells-the-truth : TvalTellsTheTruth
 unfolding readTimer
 tval-tells-the-truth =
     record {
-      reads = λ s v x a lease r. cntv-read s a Tval r ∙ rw (lease .cntv) (ap (doneRead (rtOf (a .word))) (left-at (v plus signed32 x) (virtualAt s (a .count))));
+      reads = λ s v x a lease r. cntv-read s a Tval r ∙ rw (lease .cntv) (ap (doneRead (a .word)) (left-at (v plus signed32 x) (virtualAt s (a .count))));
       signed = λ v x w fits. ⊎-elim (λ h. small-signed (ticksLeft v x w) h) (λ h. large-signed (ticksLeft v x w) (h .0) (h .1)) fits;
       ahead = λ v x n w f a h k. left-ahead x n (a .low) (a .small) v w f h k ∙ omega arith;
       over = λ v x n w f a h. left-over x n (a .low) (a .small) v w f h;
@@ -257,14 +258,14 @@ by-the-guest-alone s t as₁ as₂ guest alike shown =
     let end : SequencesAlike accessOf s t as₁ as₂ = any-sequence accessOf one-access s t as₁ as₂ guest alike shown in
     let m : State = endState accessOf s as₁ in
     let n : State = endState accessOf t as₂ in
-    same-lease m n (alike-still s t m n alike (end .here) (end .there) (end .cntv))
+    same-lease m n (alike-still s t m n (end .states) alike)
 
 -- ---- the claim
 
 lease-kept : LeaseKept
 lease-kept s value control both accesses takes order none =
     let begun : State = endState accessOf s both in
-    not-early-not-late (endState accessOf begun accesses) (virtualAt s (value .count)) (taken value) (omega arith)
+    not-early-not-late (endState accessOf begun accesses) (virtualAt s (value .count)) (writtenOperand value) (omega arith)
     (left-alone begun accesses none .1 .deadline (deadlineOf s value) (armed s value control both takes order))
 
 pub lease-claim : LeaseClaim

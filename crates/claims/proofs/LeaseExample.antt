@@ -6,6 +6,7 @@ use mathlib.Core.Logic.{inl}
 use mathlib.Core.Path.{_≡_, refl, sym, subst, _∙_}
 use lib.Dec.{T}
 use native.Mathlib.Omega.{arith}
+use Rattle.rules.specs.declared.access.Access.{Access}
 use Rattle.rules.specs.declared.name.Lookup.{Lookup}
 use Rattle.rules.specs.declared.name.Name.{Name}
 use Rattle.rules.specs.declared.name.Part.the-variants.{Tval, Ctl, Cval}
@@ -14,7 +15,7 @@ use Rattle.rules.specs.declared.state.TimerName.the-variants.{Cntv, Cnthp}
 use Rattle.rules.specs.declared.verdict.Target.{Target}
 use Rattle.rules.specs.declared.verdict.Verdict.{Verdict}
 use Rattle.rules.specs.Words.{factsOf}
-use Rattle.rules.specs.Names.{nameOf, nameTable, isMrs}
+use Rattle.rules.specs.Names.{nameOf, nameTable, isMrs, writtenOperand}
 use Rattle.rules.specs.Cntv.{cntv}
 use Rattle.rules.specs.El2.{cntvoff, cnthp}
 use Rattle.rules.specs.Verdicts.{verdictOf}
@@ -24,7 +25,7 @@ use Rattle.rules.specs.Context.{impossible, impossibleAt}
 use Rattle.rules.specs.Access.{permitted, ruled, served, accessOf}
 use Rattle.rules.specs.Lines.{lineOf, linesOf}
 use Rattle.rules.specs.Readings.{start}
-use Rattle.claims.specs.Desk.{Access, PermittedWrite, taken, NoneReaches}
+use Rattle.claims.specs.Desk.{PermittedWrite, NoneReaches}
 use Rattle.claims.specs.Lease.{Takes, OfTheLease, Ahead}
 use Rattle.claims.specs.LeaseExample.{value, control, onTheWay, begun, LeaseExample}
 use Rattle.claims.proofs.Lease.{lease-claim}
@@ -67,7 +68,7 @@ takes-it =
 pub lease-example : LeaseExample
 unfolding factsOf nameOf nameTable cntv cntvoff verdictOf countOf writeTimer writeOf impossible impossibleAt permitted ruled served accessOf lineOf linesOf
 lease-example =
-    let ahead : Ahead (taken value) 500 = record { low = refl; small = omega arith } in
+    let ahead : Ahead (writtenOperand value) 500 = record { low = refl; small = omega arith } in
     record {
       takes = takes-it;
       alone = on-the-way;

@@ -9,6 +9,7 @@ use native.Mathlib.Omega.{arith}
 use lib.Dec.{eqb}
 use lib.ListN.{length}
 use borrow.Author.Tests.{eq-eqb, ne-eqb, eqb-true, lt-ltb, le-ltb}
+use Rattle.rules.specs.declared.access.Access.{Access}
 use Rattle.rules.specs.declared.facts.Facts.{Facts}
 use Rattle.rules.specs.declared.name.Lookup.{Lookup}
 use Rattle.rules.specs.declared.name.Lookup.the-variants.{Named, NotNamed}
@@ -45,8 +46,8 @@ stopped word number h = empty word number (rtOf word) (omega arith) (λ g. refl)
 refusal : (word number : ℕ) → 4 ≤ number → number ≤ 5 → AnswerFor word (refused number)
 refusal word number h k = empty word number 0 k (λ g. omega arith) (λ g. refl)
 
-module _ (f : Facts) (s : State) (word operand count : ℕ) where
-  done : (target : Target) (b : Bool) → isMrs word ≡ b → AnswerFor word (permitted f s word operand count target .answer)
+module _ (f : Facts) (s : State) (a : Access) where
+  done : (target : Target) (b : Bool) → isMrs (a .word) ≡ b → AnswerFor (a .word) (permitted f s a target .answer)
   unfolding permitted
   done target true e =
       rw e (record {
@@ -56,30 +57,30 @@ module _ (f : Facts) (s : State) (word operand count : ℕ) where
         notDone = λ h. omega arith;
         written = λ h. let no : _≡_ {A = ℕ} 0 1 = cc in omega arith;
       })
-  done target false e = rw e (stopped word 0 (omega arith))
+  done target false e = rw e (stopped (a .word) 0 (omega arith))
 
-  by-verdict : (v : Verdict) → AnswerFor word (ruled f s word operand count v .answer)
+  by-verdict : (v : Verdict) → AnswerFor (a .word) (ruled f s a v .answer)
   unfolding ruled
-  by-verdict Undefined = stopped word 1 (omega arith)
-  by-verdict ToEl1 = stopped word 2 (omega arith)
-  by-verdict ToEl2 = stopped word 3 (omega arith)
-  by-verdict (Reaches target) = done target (isMrs word) refl
+  by-verdict Undefined = stopped (a .word) 1 (omega arith)
+  by-verdict ToEl1 = stopped (a .word) 2 (omega arith)
+  by-verdict ToEl2 = stopped (a .word) 3 (omega arith)
+  by-verdict (Reaches target) = done target (isMrs (a .word)) refl
 
-module _ (s : State) (word level operand count : ℕ) where
-  by-context : (name : Name) (b : Bool) → impossibleAt s level ≡ b → AnswerFor word (served s word level operand count (Named name) .answer)
+module _ (s : State) (a : Access) where
+  by-context : (name : Name) (b : Bool) → impossibleAt s (a .level) ≡ b → AnswerFor (a .word) (served s a (Named name) .answer)
   unfolding served
-  by-context name true e = rw e (refusal word 5 (omega arith) (omega arith))
+  by-context name true e = rw e (refusal (a .word) 5 (omega arith) (omega arith))
   by-context name false e =
-      rw e (by-verdict (factsOf s level) s word operand count (verdictOf (factsOf s level) name (isMrs word)))
+      rw e (by-verdict (factsOf s (a .level)) s a (verdictOf (factsOf s (a .level)) name (isMrs (a .word))))
 
-  by-name : (l : Lookup) → AnswerFor word (served s word level operand count l .answer)
+  by-name : (l : Lookup) → AnswerFor (a .word) (served s a l .answer)
   unfolding served
-  by-name NotNamed = refusal word 4 (omega arith) (omega arith)
-  by-name (Named name) = by-context name (impossibleAt s level) refl
+  by-name NotNamed = refusal (a .word) 4 (omega arith) (omega arith)
+  by-name (Named name) = by-context name (impossibleAt s (a .level)) refl
 
 pub each-answer : EachAnswer
 unfolding accessOf
-each-answer s word level operand count = by-name s word level operand count (nameOf word)
+each-answer s a = by-name s a (nameOf (a .word))
 
 -- ---- a record
 

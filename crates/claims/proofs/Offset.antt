@@ -8,17 +8,16 @@ use mathlib.Core.Path.{_≡_, refl, sym, subst, _∙_}
 use native.Mathlib.Omega.{arith}
 use lib.Dec.{T, eqb}
 use borrow.Author.Tests.{ne-eqb, not-true}
+use Rattle.rules.specs.declared.access.Access.{Access}
 use Rattle.rules.specs.declared.state.State.{State}
 use Rattle.rules.specs.declared.verdict.Target.the-variants.{Cntpct}
 use Rattle.rules.specs.Bits.{bit}
 use Rattle.rules.specs.Words.{EL0, EL1, on, host, offsetOn, factsOf}
-use Rattle.rules.specs.Names.{rtOf}
 use Rattle.rules.specs.Arithmetic.{_less_}
 use Rattle.rules.specs.Counts.{offsetSeen}
 use Rattle.rules.specs.Values.{known, readOf}
 use Rattle.rules.specs.Answers.{doneRead}
 use Rattle.rules.specs.Access.{accessOf}
-use Rattle.claims.specs.Desk.{Access, serve}
 use Rattle.claims.specs.Offset.{OffsetOn, WhoSeesCntpoff}
 use Rattle.claims.proofs.Grounds.{is-false, on-of, of-on}
 use Rattle.claims.proofs.Writes.{reads-give}
@@ -71,13 +70,13 @@ module _ (s : State) where
       ⊎-elim (λ (up : 2 ≤ level). rw (high level up)) (λ (off : OffsetOn s → ⊥). rw (is-false (offsetOn s) (λ e. off (of-offset e))) (and-false (eqb level EL0 || eqb level EL1))) h
 
 -- what CNTPCT reads as, by that test
-by-test : (s : State) (a : Access) (b : Bool) → offsetSeen (factsOf s (a .level)) ≡ b → doneRead (rtOf (a .word)) (readOf (factsOf s (a .level)) s (a .count) Cntpct) ≡ doneRead (rtOf (a .word)) (known (cond b (a .count less s .cntpoff) (a .count)))
+by-test : (s : State) (a : Access) (b : Bool) → offsetSeen (factsOf s (a .level)) ≡ b → doneRead (a .word) (readOf (factsOf s (a .level)) s (a .count) Cntpct) ≡ doneRead (a .word) (known (cond b (a .count less s .cntpoff) (a .count)))
 unfolding readOf
 by-test s a b e = rw e
 
 pub who-sees-cntpoff : WhoSeesCntpoff
 who-sees-cntpoff s a r =
-    let given : serve accessOf s a .answer ≡ doneRead (rtOf (a .word)) (readOf (factsOf s (a .level)) s (a .count) Cntpct) = reads-give s (a .word) (a .level) (a .operand) (a .count) Cntpct (r .read) (r .permitted) in
+    let given : accessOf s a .answer ≡ doneRead (a .word) (readOf (factsOf s (a .level)) s (a .count) Cntpct) = reads-give s a Cntpct r in
     record {
       offset = λ h o. given ∙ by-test s a true (seen s (a .level) (omega arith) o);
       physical = λ h. given ∙ by-test s a false (unseen s (a .level) h);

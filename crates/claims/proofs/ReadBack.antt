@@ -6,6 +6,7 @@ use mathlib.Core.Bool.{Bool, true, false, cond}
 use mathlib.Core.List.{_∷_}
 use mathlib.Core.Path.{_≡_, refl, sym, ap, subst, _∙_}
 use native.Mathlib.Omega.{arith}
+use Rattle.rules.specs.declared.access.Access.{Access}
 use Rattle.rules.specs.declared.answer.Value.{Value}
 use Rattle.rules.specs.declared.name.Name.{Name}
 use Rattle.rules.specs.declared.name.Name.the-variants.{Cntpct, Cntvct, Cntpctss, Cntvctss, Cntp, Cntv, Cntvoff, Cnthp, Cnthvs}
@@ -18,7 +19,7 @@ use Rattle.rules.specs.declared.verdict.Verdict.{Verdict}
 use Rattle.rules.specs.declared.verdict.Verdict.the-variants.{Undefined, ToEl1, ToEl2, Reaches}
 use Rattle.rules.specs.Verdicts.{verdictOf}
 use Rattle.rules.specs.Words.{factsOf}
-use Rattle.rules.specs.Names.{isMrs, rtOf}
+use Rattle.rules.specs.Names.{isMrs, writtenOperand}
 use Rattle.rules.specs.Timers.{same, get, put}
 use Rattle.rules.specs.States.{withTimers}
 use Rattle.rules.specs.Values.{readTval, writeCtl, readTimer, writeTimer, readOf, writeOf}
@@ -26,7 +27,7 @@ use Rattle.rules.specs.Answers.{doneRead}
 use Rattle.rules.specs.Access.{accessOf}
 use Rattle.rules.proofs.Timers.{get-put-same, get-put-other, part-kept}
 use Rattle.rules.proofs.Verdicts.{cntp-holds, cntv-holds, cnthp-holds, cnthvs-holds}
-use Rattle.claims.specs.Desk.{Access, serve, endState, Permitted, PermittedWrite, PermittedRead, taken}
+use Rattle.claims.specs.Desk.{endState, Permitted, PermittedWrite, PermittedRead}
 use Rattle.claims.proofs.Kept.{all-keep}
 use Rattle.claims.proofs.Ways.{whatever-timers}
 use Rattle.claims.proofs.Writes.{timer-written, reads-give}
@@ -87,19 +88,18 @@ module _ (t : TimerName) where
   usedAt s level count = usedCount (factsOf s level) s count t
 
   abbrev left : State → Access → Part → Timer
-  left s a p = writeTimer (get (s .timers) t) p (usedAt s (a .level) (a .count)) (taken a)
+  left s a p = writeTimer (get (s .timers) t) p (usedAt s (a .level) (a .count)) (writtenOperand a)
 
   abbrev tval : State → ℕ → ℕ → Value
   tval s level count = readTval (get (s .timers) t) (usedAt s level count)
 
-  write-leaves : (s : State) (a : Access) (p : Part) → PermittedWrite s a (Target.Timer t p) → get (serve accessOf s a .next .timers) t ≡ left s a p
+  write-leaves : (s : State) (a : Access) (p : Part) → PermittedWrite s a (Target.Timer t p) → get (accessOf s a .next .timers) t ≡ left s a p
   write-leaves s a p w =
       ap (λ (n : State). get (n .timers) t) (timer-written s a t p w) ∙ get-put-same (s .timers) t (left s a p)
 
-  read-gives : (s : State) (a : Access) → PermittedRead s a (Target.Timer t Tval) → serve accessOf s a .answer ≡ doneRead (rtOf (a .word)) (tval s (a .level) (a .count))
+  read-gives : (s : State) (a : Access) → PermittedRead s a (Target.Timer t Tval) → accessOf s a .answer ≡ doneRead (a .word) (tval s (a .level) (a .count))
   unfolding readOf readTimer
-  read-gives s a r =
-      reads-give s (a .word) (a .level) (a .operand) (a .count) (Target.Timer t Tval) (r .read) (r .permitted)
+  read-gives s a r = reads-give s a (Target.Timer t Tval) r
 
   -- in the same context the count used is the same
   used-again : (s later : State) (level count : ℕ) → SameContext s later → usedAt later level count ≡ usedAt s level count
@@ -108,11 +108,11 @@ module _ (t : TimerName) where
       ap (λ (n : State). usedAt n level count) same
       ∙ count-of-other-timers (offsetSeen (factsOf s level)) s (later .timers) count t
 
-  tval-again : (s later : State) (w : Access) → w .count < 2 ^ 64 → SameContext s later → get (later .timers) t .cval ≡ left s w Tval .cval → get (later .timers) t .enable ≡ true → ReadsLow (tval later (w .level) (w .count)) (taken w)
+  tval-again : (s later : State) (w : Access) → w .count < 2 ^ 64 → SameContext s later → get (later .timers) t .cval ≡ left s w Tval .cval → get (later .timers) t .enable ≡ true → ReadsLow (tval later (w .level) (w .count)) (writtenOperand w)
   unfolding writeTimer
   tval-again s later w fits same cval enabled =
-      subst (λ (u : ℕ). ReadsLow (readTval (get (later .timers) t) u) (taken w)) (sym (used-again s later (w .level) (w .count) same))
-      (timer-reads-back (get (s .timers) t) (get (later .timers) t) (usedAt s (w .level) (w .count)) (taken w) (count-fits (offsetSeen (factsOf s (w .level))) s (w .count) t fits) cval enabled)
+      subst (λ (u : ℕ). ReadsLow (readTval (get (later .timers) t) u) (writtenOperand w)) (sym (used-again s later (w .level) (w .count) same))
+      (timer-reads-back (get (s .timers) t) (get (later .timers) t) (usedAt s (w .level) (w .count)) (writtenOperand w) (count-fits (offsetSeen (factsOf s (w .level))) s (w .count) t fits) cval enabled)
 
 pub tval-reads-back : TvalReadsBack
 tval-reads-back s w between r t h =
@@ -162,8 +162,8 @@ left-as-written s accesses t none =
 pub enabled-afterwards : EnabledAfterwards
 unfolding writeTimer
 enabled-afterwards s w control r t write-w write-control on read-r level count fits =
-    let m : State = serve accessOf s w .next in
-    let n : State = serve accessOf m control .next in
+    let m : State = accessOf s w .next in
+    let n : State = accessOf m control .next in
     let now : get (n .timers) t ≡ left t m control Ctl = write-leaves t m control Ctl write-control in
     record {
       write = write-w;
@@ -217,12 +217,12 @@ module _ (f : Facts) (name : Name) (has : HasTval name) where
   either-direction b c = tval-names (λ n. verdictOf f n b ≡ verdictOf f n c) refl refl refl refl name has
 
 pub read-follows-write : ReadFollowsWrite
-read-follows-write s later write read level name target has n m same p =
-    let f : Facts = factsOf s level in
+read-follows-write s later w r name target has n m level same p =
+    let f : Facts = factsOf s (w .level) in
     let named : p .name ≡ name = cc in
-    let verdict : verdictOf f name (isMrs write) ≡ Reaches target = rw named at (p .verdict) in
-    let alone : TvalAlone (Reaches target) = subst TvalAlone verdict (tval-alone f name has (isMrs write)) in
+    let verdict : verdictOf f name (isMrs (w .word)) ≡ Reaches target = rw named at (p .verdict) in
+    let alone : TvalAlone (Reaches target) = subst TvalAlone verdict (tval-alone f name has (isMrs (w .word))) in
     let t : TimerName = alone .0 in
-    let verdict-of-read : verdictOf f name (isMrs read) ≡ Reaches (Target.Timer t Tval) = either-direction f name has (isMrs read) (isMrs write) ∙ verdict ∙ ap Reaches (alone .1) in
-    let then : Permitted s read level (Target.Timer t Tval) = record { name = name; named = m; possible = p .possible; verdict = verdict-of-read } in
-    (t, alone .1, subst (λ (x : State). Permitted x read level (Target.Timer t Tval)) (sym same) (whatever-timers (later .timers) then))
+    let verdict-of-read : verdictOf f name (isMrs (r .word)) ≡ Reaches (Target.Timer t Tval) = either-direction f name has (isMrs (r .word)) (isMrs (w .word)) ∙ verdict ∙ ap Reaches (alone .1) in
+    let then : Permitted s r (Target.Timer t Tval) = record { name = name; named = m; possible = rw level (p .possible); verdict = rw level verdict-of-read } in
+    (t, alone .1, subst (λ (x : State). Permitted x r (Target.Timer t Tval)) (sym same) (whatever-timers (later .timers) then))

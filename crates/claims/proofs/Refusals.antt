@@ -8,6 +8,7 @@ use mathlib.Core.List.{List}
 use mathlib.Core.Logic.{⊎-elim}
 use mathlib.Core.Path.{_≡_, refl, ap, _∙_}
 use lib.Dec.{eqb}
+use Rattle.rules.specs.declared.access.Access.{Access}
 use Rattle.rules.specs.declared.answer.Outcome.{Outcome}
 use Rattle.rules.specs.declared.facts.Facts.{Facts}
 use Rattle.rules.specs.declared.record.Record.{Record}
@@ -20,25 +21,24 @@ use Rattle.rules.specs.Journal.{recordServed, stateAfter, answersOf, isBadJourn
 use Rattle.claims.specs.Refusals.{RefusalsMoveNothing, RecordRefusalsMoveNothing, RunRefusalsMoveNothing, ReadsMoveNothing}
 use Rattle.claims.proofs.Ways.{ways}
 
-module _ (f : Facts) (s : State) (word operand count : ℕ) (target : Target) where
-  done-either-way : (b : Bool) → isMrs word ≡ b → permitted f s word operand count target .answer .number ≡ done
+module _ (f : Facts) (s : State) (a : Access) (target : Target) where
+  done-either-way : (b : Bool) → isMrs (a .word) ≡ b → permitted f s a target .answer .number ≡ done
   unfolding permitted
   done-either-way true e = rw e
   done-either-way false e = rw e
 
-  pub permitted-is-done : permitted f s word operand count target .answer .number ≡ done
-  permitted-is-done = done-either-way (isMrs word) refl
+  pub permitted-is-done : permitted f s a target .answer .number ≡ done
+  permitted-is-done = done-either-way (isMrs (a .word)) refl
 
 pub refusals-move-nothing : RefusalsMoveNothing
-refusals-move-nothing s word level operand count refused =
+refusals-move-nothing s a refused =
     ⊎-elim (λ w. ap (λ (o : Outcome). o .next) (w .2))
-    (λ w. absurd (refused (ap (λ (o : Outcome). o .answer .number) (w .2) ∙ permitted-is-done _ _ _ _ _ _)))
-    (ways s word level operand count)
+    (λ w. absurd (refused (ap (λ (o : Outcome). o .answer .number) (w .2) ∙ permitted-is-done _ _ _ _)))
+    (ways s a)
 
 by-reserved : (s : State) (r : Record) (b : Bool) → eqb (r .reserved) 0 ≡ b → (recordServed s r .answer .number ≡ done → ⊥) → recordServed s r .next ≡ s
 unfolding recordServed
-by-reserved s r true e refused =
-    rw e (refusals-move-nothing s (r .word) (r .level) (r .operand) (r .count) (rw e at refused))
+by-reserved s r true e refused = rw e (refusals-move-nothing s (r .access) (rw e at refused))
 by-reserved s r false e refused = rw e
 
 pub record-refusals-move-nothing : RecordRefusalsMoveNothing
@@ -57,6 +57,6 @@ run-refusals-move-nothing s journal answers refused =
 
 pub reads-move-nothing : ReadsMoveNothing
 unfolding permitted
-reads-move-nothing s word level operand count mrs =
+reads-move-nothing s a mrs =
     ⊎-elim (λ w. ap (λ (o : Outcome). o .next) (w .2)) (λ w. ap (λ (o : Outcome). o .next) (w .2) ∙ rw mrs)
-    (ways s word level operand count)
+    (ways s a)

@@ -37,10 +37,10 @@ unfolding factsOf nameOf nameTable cntv cntvct verdictOf countOf readTimer write
 two-machines =
     record {
       guest = record { guest = record { nonsecure = refl; tge0 = refl }; trapped = refl };
-      alike = record { features = refl; controls = refl; cntv = refl };
+      alike = record { features = refl; controls = refl; own = refl };
       shown = (
-        record { el0OrEl1 = inr refl; word = refl; level = refl; operand = refl; count = refl },
-        (record { el0OrEl1 = inr refl; word = refl; level = refl; operand = refl; count = refl }, tt),
+        record { el0OrEl1 = inr refl; same = refl },
+        (record { el0OrEl1 = inr refl; same = refl }, tt),
       );
       cntvoff = λ (e : _≡_ {A = ℕ} 400 0). omega arith;
       cntpoff = λ (e : _≡_ {A = ℕ} 0 7). omega arith;

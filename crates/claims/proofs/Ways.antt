@@ -2,11 +2,11 @@
 -- that the verdict names read or written. The order of the desk, 4, 5, then the verdict, is gone through once, here.
 -- What is permitted is a matter of features and controls: other timers do not change it.
 -- Assumes nothing.
-use Prim.Native.Nat.{ℕ}
 use mathlib.Core.Bool.{Bool, true, false}
 use mathlib.Core.Logic.{_⊎_, inl, inr}
 use mathlib.Core.Path.{_≡_, refl}
 use native.Mathlib.Omega.{arith}
+use Rattle.rules.specs.declared.access.Access.{Access}
 use Rattle.rules.specs.declared.answer.Answer.{Answer}
 use Rattle.rules.specs.declared.name.Lookup.{Lookup}
 use Rattle.rules.specs.declared.name.Lookup.the-variants.{Named, NotNamed}
@@ -17,7 +17,7 @@ use Rattle.rules.specs.declared.verdict.Target.{Target}
 use Rattle.rules.specs.declared.verdict.Verdict.{Verdict}
 use Rattle.rules.specs.declared.verdict.Verdict.the-variants.{Undefined, ToEl1, ToEl2, Reaches}
 use Rattle.rules.specs.Words.{factsOf}
-use Rattle.rules.specs.Names.{nameOf, isMrs, rtOf}
+use Rattle.rules.specs.Names.{nameOf, isMrs}
 use Rattle.rules.specs.Verdicts.{verdictOf}
 use Rattle.rules.specs.Answers.{done, trapToEl1, trapToEl2, notATimerAccess, impossibleContext, undefinedAt, trapped, refused, asBefore}
 use Rattle.rules.specs.States.{withTimers}
@@ -25,41 +25,41 @@ use Rattle.rules.specs.Context.{impossible, impossibleAt}
 use Rattle.rules.specs.Access.{permitted, ruled, served, accessOf}
 use Rattle.claims.specs.Desk.{Permitted}
 
-module _ (s : State) (word level operand count : ℕ) where
+module _ (s : State) (a : Access) where
   abbrev pub EndsAsBefore : Type 0
-  EndsAsBefore = (a : Answer) × (a .number ≡ done → ⊥) × (accessOf s word level operand count ≡ asBefore s a)
+  EndsAsBefore = (n : Answer) × (n .number ≡ done → ⊥) × (accessOf s a ≡ asBefore s n)
 
   abbrev pub EndsPermitted : Type 0
   EndsPermitted =
-      (target : Target) × Permitted s word level target × (accessOf s word level operand count ≡ permitted (factsOf s level) s word operand count target)
+      (target : Target) × Permitted s a target × (accessOf s a ≡ permitted (factsOf s (a .level)) s a target)
 
-  by-verdict : (name : Name) → nameOf word ≡ Named name → impossibleAt s level ≡ false → (v : Verdict) → verdictOf (factsOf s level) name (isMrs word) ≡ v → EndsAsBefore ⊎ EndsPermitted
+  by-verdict : (name : Name) → nameOf (a .word) ≡ Named name → impossibleAt s (a .level) ≡ false → (v : Verdict) → verdictOf (factsOf s (a .level)) name (isMrs (a .word)) ≡ v → EndsAsBefore ⊎ EndsPermitted
   unfolding accessOf served ruled
-  by-verdict name n i Undefined e = inl (undefinedAt (rtOf word), λ p. omega arith, rw (n, i, e))
-  by-verdict name n i ToEl1 e = inl (trapped trapToEl1 (rtOf word), λ p. omega arith, rw (n, i, e))
-  by-verdict name n i ToEl2 e = inl (trapped trapToEl2 (rtOf word), λ p. omega arith, rw (n, i, e))
+  by-verdict name n i Undefined e = inl (undefinedAt (a .word), λ p. omega arith, rw (n, i, e))
+  by-verdict name n i ToEl1 e = inl (trapped trapToEl1 (a .word), λ p. omega arith, rw (n, i, e))
+  by-verdict name n i ToEl2 e = inl (trapped trapToEl2 (a .word), λ p. omega arith, rw (n, i, e))
   by-verdict name n i (Reaches target) e =
       inr (target, record { name = name; named = n; possible = i; verdict = e }, rw (n, i, e))
 
-  by-context : (name : Name) → nameOf word ≡ Named name → (b : Bool) → impossibleAt s level ≡ b → EndsAsBefore ⊎ EndsPermitted
+  by-context : (name : Name) → nameOf (a .word) ≡ Named name → (b : Bool) → impossibleAt s (a .level) ≡ b → EndsAsBefore ⊎ EndsPermitted
   unfolding accessOf served
   by-context name n true i = inl (refused impossibleContext, λ p. omega arith, rw (n, i))
-  by-context name n false i = by-verdict name n i (verdictOf (factsOf s level) name (isMrs word)) refl
+  by-context name n false i = by-verdict name n i (verdictOf (factsOf s (a .level)) name (isMrs (a .word))) refl
 
-  by-name : (l : Lookup) → nameOf word ≡ l → EndsAsBefore ⊎ EndsPermitted
+  by-name : (l : Lookup) → nameOf (a .word) ≡ l → EndsAsBefore ⊎ EndsPermitted
   unfolding accessOf served
   by-name NotNamed n = inl (refused notATimerAccess, λ p. omega arith, rw n)
-  by-name (Named name) n = by-context name n (impossibleAt s level) refl
+  by-name (Named name) n = by-context name n (impossibleAt s (a .level)) refl
 
   pub ways : EndsAsBefore ⊎ EndsPermitted
-  ways = by-name (nameOf word) refl
+  ways = by-name (nameOf (a .word)) refl
 
   -- a permitted access ends so whoever asks: what the verdict names is what is read or written
-  pub ends : (target : Target) → Permitted s word level target → accessOf s word level operand count ≡ permitted (factsOf s level) s word operand count target
+  pub ends : (target : Target) → Permitted s a target → accessOf s a ≡ permitted (factsOf s (a .level)) s a target
   unfolding accessOf served ruled
   ends target p = rw (p .named, p .possible, p .verdict)
 
 -- the name, the context and the gates do not look at the timers
-pub whatever-timers : {s : State} {word level : ℕ} {target : Target} (ts : Timers) → Permitted s word level target → Permitted (withTimers s ts) word level target
+pub whatever-timers : {s : State} {a : Access} {target : Target} (ts : Timers) → Permitted s a target → Permitted (withTimers s ts) a target
 unfolding factsOf impossible impossibleAt
 whatever-timers ts p = record { name = p .name; named = p .named; possible = p .possible; verdict = p .verdict }

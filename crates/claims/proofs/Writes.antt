@@ -5,6 +5,7 @@ use Prim.Native.Nat.{ℕ}
 use mathlib.Core.Bool.{false}
 use mathlib.Core.Logic.{⊎-elim}
 use mathlib.Core.Path.{_≡_, refl, ap, sym, subst, _∙_}
+use Rattle.rules.specs.declared.access.Access.{Access}
 use Rattle.rules.specs.declared.answer.Outcome.{Outcome}
 use Rattle.rules.specs.declared.facts.Facts.{Facts}
 use Rattle.rules.specs.declared.name.Name.{Name}
@@ -18,7 +19,7 @@ use Rattle.rules.specs.declared.verdict.Target.{Target}
 use Rattle.rules.specs.declared.verdict.Verdict.{Verdict}
 use Rattle.rules.specs.declared.verdict.Verdict.the-variants.{Undefined, ToEl1, ToEl2, Reaches}
 use Rattle.rules.specs.Words.{factsOf}
-use Rattle.rules.specs.Names.{isMrs, writtenOperand}
+use Rattle.rules.specs.Names.{writtenOperand}
 use Rattle.rules.specs.El2.{cntvoff}
 use Rattle.rules.specs.Timers.{get, put}
 use Rattle.rules.specs.States.{withTimers}
@@ -29,7 +30,7 @@ use Rattle.rules.specs.Access.{permitted, accessOf}
 use Rattle.rules.proofs.Rules.{at-level-holds}
 use Rattle.rules.proofs.Verdicts.{cntp-holds, cntv-holds, cnthp-holds, cnthvs-holds}
 use Rattle.rules.proofs.Timers.{get-put-same}
-use Rattle.claims.specs.Desk.{Access, serve, Permitted, PermittedWrite, taken}
+use Rattle.claims.specs.Desk.{PermittedWrite}
 use Rattle.claims.specs.Writes.{OnePart, OneRegister, WritesChangeOne, ReadsGive, DoneIsPermitted}
 use Rattle.claims.proofs.Ways.{ways, ends}
 
@@ -61,9 +62,9 @@ msr-writable f Cntvoff = cntvoff-writable f
 msr-writable f (Cnthp p) = cnthp-holds Writable p tt tt tt (λ _. tt) f
 msr-writable f (Cnthvs p) = cnthvs-holds Writable p tt tt tt (λ _. tt) f
 
-permitted-writable : {s : State} {word level : ℕ} {target : Target} → isMrs word ≡ false → Permitted s word level target → Writable (Reaches target)
-permitted-writable {s} {word} {level} {target} msr p =
-    subst Writable (rw msr at (p .verdict)) (msr-writable (factsOf s level) (p .name))
+permitted-writable : {s : State} {a : Access} {target : Target} → PermittedWrite s a target → Writable (Reaches target)
+permitted-writable {s} {a} {target} w =
+    subst Writable (rw (w .write) at (w .permitted .verdict)) (msr-writable (factsOf s (a .level)) (w .permitted .name))
 
 -- ---- and what a write reaches, it changes alone
 
@@ -86,28 +87,26 @@ one-register f s count (Target.Timer t p) x w =
 
 pub writes-change-one : WritesChangeOne
 unfolding permitted
-writes-change-one s word level operand count target msr p =
-    let f : Facts = factsOf s level in
-    let end : accessOf s word level operand count ≡ permitted f s word operand count target = ends s word level operand count target p in
-    let left : accessOf s word level operand count .next ≡ writeOf f s count target (writtenOperand word operand) = ap (λ (o : Outcome). o .next) end ∙ rw msr in
+writes-change-one s a target w =
+    let f : Facts = factsOf s (a .level) in
+    let end : accessOf s a ≡ permitted f s a target = ends s a target (w .permitted) in
+    let left : accessOf s a .next ≡ writeOf f s (a .count) target (writtenOperand a) = ap (λ (o : Outcome). o .next) end ∙ rw (w .write) in
     record {
-      answer = ap (λ (o : Outcome). o .answer) end ∙ rw msr;
+      answer = ap (λ (o : Outcome). o .answer) end ∙ rw (w .write);
       next = left;
-      one = subst (λ (n : State). OneRegister target s n) (sym left) (one-register f s count target (writtenOperand word operand) (permitted-writable msr p));
+      one = subst (λ (n : State). OneRegister target s n) (sym left) (one-register f s (a .count) target (writtenOperand a) (permitted-writable w));
     }
 
 -- a permitted write to a timer: the timer is written at the count used, and the rest stands
-pub timer-written : (s : State) (a : Access) (t : TimerName) (p : Part) → PermittedWrite s a (Target.Timer t p) → serve accessOf s a .next ≡ withTimers s (put (s .timers) t (writeTimer (get (s .timers) t) p (usedCount (factsOf s (a .level)) s (a .count) t) (taken a)))
+pub timer-written : (s : State) (a : Access) (t : TimerName) (p : Part) → PermittedWrite s a (Target.Timer t p) → accessOf s a .next ≡ withTimers s (put (s .timers) t (writeTimer (get (s .timers) t) p (usedCount (factsOf s (a .level)) s (a .count) t) (writtenOperand a)))
 unfolding writeOf
-timer-written s a t p w =
-    writes-change-one s (a .word) (a .level) (a .operand) (a .count) (Target.Timer t p) (w .write) (w .permitted) .next
+timer-written s a t p w = writes-change-one s a (Target.Timer t p) w .next
 
 pub reads-give : ReadsGive
 unfolding permitted
-reads-give s word level operand count target mrs p =
-    ap (λ (o : Outcome). o .answer) (ends s word level operand count target p) ∙ rw mrs
+reads-give s a target r = ap (λ (o : Outcome). o .answer) (ends s a target (r .permitted)) ∙ rw (r .read)
 
 pub done-is-permitted : DoneIsPermitted
-done-is-permitted s word level operand count is-done =
+done-is-permitted s a is-done =
     ⊎-elim (λ w. absurd (w .1 (sym (ap (λ (o : Outcome). o .answer .number) (w .2)) ∙ is-done))) (λ w. (w .0, w .1))
-    (ways s word level operand count)
+    (ways s a)

@@ -3,6 +3,7 @@ use Prim.Native.Nat.{ℕ, _<_}
 use mathlib.Core.Bool.{true, false}
 use mathlib.Core.Logic.{_⊎_}
 use mathlib.Core.Path.{_≡_}
+use Rattle.rules.specs.declared.access.Access.{Access}
 use Rattle.rules.specs.declared.name.Lookup.{Lookup}
 use Rattle.rules.specs.declared.name.Name.{Name}
 use Rattle.rules.specs.declared.state.State.{State}
@@ -32,11 +33,11 @@ pub data GroundAt (s : State) (level : ℕ) : Type 0 where
 -- an access whose word has a name gets 5 exactly on one of these; the lines question gets 5 exactly on one that has no level
 pub record FiveExactlyWhen : Type 0 where
   pub refused :
-      (s : State) (word level operand count : ℕ) (name : Name) →
-      nameOf word ≡ Lookup.Named name →
-      GroundAt s level →
-      accessOf s word level operand count .answer .number ≡ 5
+      (s : State) (a : Access) (name : Name) →
+      nameOf (a .word) ≡ Lookup.Named name →
+      GroundAt s (a .level) →
+      accessOf s a .answer .number ≡ 5
   pub reason :
-      (s : State) (word level operand count : ℕ) → accessOf s word level operand count .answer .number ≡ 5 → GroundAt s level
+      (s : State) (a : Access) → accessOf s a .answer .number ≡ 5 → GroundAt s (a .level)
   pub linesRefused : (s : State) (physical : ℕ) → Ground s → linesOf s physical .number ≡ 5
   pub linesReason : (s : State) (physical : ℕ) → linesOf s physical .number ≡ 5 → Ground s

@@ -4,14 +4,17 @@ use mathlib.Core.Bool.{true, false}
 use mathlib.Core.List.{List, [], _∷_}
 use mathlib.Core.Logic.{_⊎_}
 use mathlib.Core.Path.{_≡_}
+use Rattle.rules.specs.declared.access.Access.{Access}
 use Rattle.rules.specs.declared.state.State.{State}
-use Rattle.rules.specs.declared.state.TimerName.{TimerName}
+use Rattle.rules.specs.declared.state.Timer.{Timer}
 use Rattle.rules.specs.declared.state.TimerName.the-variants.{Cntv}
 use Rattle.rules.specs.Words.{EL0, EL1, physicalTrapped}
-use Rattle.rules.specs.Timers.{same, get}
+use Rattle.rules.specs.Names.{anAccess}
+use Rattle.rules.specs.Timers.{put}
+use Rattle.rules.specs.States.{withTimers}
 use Rattle.rules.specs.Counts.{virtual}
 use Rattle.rules.specs.Access.{accessOf}
-use Rattle.claims.specs.Desk.{Desk, Access, serve, answersTo, endState}
+use Rattle.claims.specs.Desk.{Desk, answersTo, endState}
 
 -- Non-secure, TGE 0
 pub record Guest (s : State) : Type 0 where
@@ -23,20 +26,31 @@ pub record TrappedGuest (s : State) : Type 0 where
   pub guest : Guest s
   pub trapped : physicalTrapped s ≡ true
 
--- two machines alike in features, controls and the guest's virtual timer; physical count, offsets and every other timer
--- may differ
+-- the guest's own part of a state, which it reads and moves: its virtual timer
+abbrev pub Own : Type 0
+Own = Timer
+
+abbrev pub own : State → Own
+own s = s .timers .cntv
+
+-- a state with that part put in
+abbrev pub withOwn : State → Own → State
+withOwn s x = withTimers s (put (s .timers) Cntv x)
+
+-- two machines alike in features, controls and the guest's own part; physical count, offsets and every other timer may differ
 pub record Alike (s t : State) : Type 0 where
   pub features : s .features ≡ t .features
   pub controls : s .controls ≡ t .controls
-  pub cntv : s .timers .cntv ≡ t .timers .cntv
+  pub own : own s ≡ own t
+
+-- an access as the guest sees it: at the virtual count
+abbrev pub asSeen : State → Access → Access
+asSeen s a = anAccess (a .word) (a .level) (a .operand) (virtual s (a .count))
 
 -- the same access, at EL0 or EL1, shown to each at the same virtual count
 pub record SameShown (s t : State) (a b : Access) : Type 0 where
   pub el0OrEl1 : (a .level ≡ EL0) ⊎ (a .level ≡ EL1)
-  pub word : a .word ≡ b .word
-  pub level : a .level ≡ b .level
-  pub operand : a .operand ≡ b .operand
-  pub count : virtual s (a .count) ≡ virtual t (b .count)
+  pub same : asSeen s a ≡ asSeen t b
 
 -- and so each access of two sequences; the offsets are those of the start, since they do not move
 abbrev pub AllShown : State → State → List Access → List Access → Type 0
@@ -45,32 +59,30 @@ AllShown s t [] (b ∷ bs) = ⊥
 AllShown s t (a ∷ rest) [] = ⊥
 AllShown s t (a ∷ rest) (b ∷ bs) = SameShown s t a b × AllShown s t rest bs
 
--- features, controls, both offsets and the five other timers are as they were
-pub record OnlyCntvMoved (old new : State) : Type 0 where
-  pub features : new .features ≡ old .features
-  pub controls : new .controls ≡ old .controls
-  pub cntvoff : new .cntvoff ≡ old .cntvoff
-  pub cntpoff : new .cntpoff ≡ old .cntpoff
-  pub others : (u : TimerName) → same Cntv u ≡ false → get (new .timers) u ≡ get (old .timers) u
+-- nothing else moved: the new state is the old one with the guest's own part of the new one put in
+abbrev pub NothingElseMoved : State → State → Type 0
+NothingElseMoved old new = new ≡ withOwn old (own new)
 
--- one access: the same answer, the same virtual timer after it, and nothing else moved on either machine
+-- what two machines come to: the same own part, and nothing else moved on either
+pub record AlikeAgain (s t s′ t′ : State) : Type 0 where
+  pub own : own s′ ≡ own t′
+  pub here : NothingElseMoved s s′
+  pub there : NothingElseMoved t t′
+
+-- one access: the same answer, and machines that are alike again
 pub record OneAlike (desk : Desk) (s t : State) (a b : Access) : Type 0 where
-  pub answer : serve desk s a .answer ≡ serve desk t b .answer
-  pub cntv : serve desk s a .next .timers .cntv ≡ serve desk t b .next .timers .cntv
-  pub here : OnlyCntvMoved s (serve desk s a .next)
-  pub there : OnlyCntvMoved t (serve desk t b .next)
+  pub answer : desk s a .answer ≡ desk t b .answer
+  pub states : AlikeAgain s t (desk s a .next) (desk t b .next)
 
 -- demand 3 for one access, over what is asked of a guest
 abbrev pub OneAccess : (State → Type 0) → Desk → Type 0
 OneAccess Asked desk =
     (s t : State) (a b : Access) → Asked s → Alike s t → SameShown s t a b → OneAlike desk s t a b
 
--- any sequence: the same answers, the same virtual timer in the end, and nothing else moved on either machine
+-- any sequence: the same answers, and machines that are alike again
 pub record SequencesAlike (desk : Desk) (s t : State) (as₁ as₂ : List Access) : Type 0 where
   pub answers : answersTo desk s as₁ ≡ answersTo desk t as₂
-  pub cntv : endState desk s as₁ .timers .cntv ≡ endState desk t as₂ .timers .cntv
-  pub here : OnlyCntvMoved s (endState desk s as₁)
-  pub there : OnlyCntvMoved t (endState desk t as₂)
+  pub states : AlikeAgain s t (endState desk s as₁) (endState desk t as₂)
 
 -- demand 3
 abbrev pub Demand3 : Desk → Type 0

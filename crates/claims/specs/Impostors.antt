@@ -3,10 +3,10 @@ use Prim.Native.Nat.{ℕ, zero, suc}
 use mathlib.Core.Bool.{cond, false}
 use mathlib.Core.List.{List, [], _++_}
 use mathlib.Core.Path.{_≡_}
+use Rattle.rules.specs.declared.access.Access.{Access}
 use Rattle.rules.specs.declared.answer.Outcome.{Outcome}
 use Rattle.rules.specs.declared.state.State.{State}
 use Rattle.rules.specs.Words.{cnthctl}
-use Rattle.rules.specs.Names.{rtOf}
 use Rattle.rules.specs.Values.{known}
 use Rattle.rules.specs.Answers.{doneRead, undefinedAt, asBefore}
 use Rattle.rules.specs.Access.{accessOf}
@@ -17,20 +17,20 @@ use Rattle.claims.specs.Journals.{Server, JournalDemand3}
 
 -- one that says Undefined to all
 abbrev pub undefinedToAll : Desk
-undefinedToAll s word level operand count = asBefore s (undefinedAt (rtOf word))
+undefinedToAll s a = asBefore s (undefinedAt (a .word))
 
 -- one that answers 600 to all
 abbrev pub sixHundredToAll : Desk
-sixHundredToAll s word level operand count = asBefore s (doneRead (rtOf word) (known 600))
+sixHundredToAll s a = asBefore s (doneRead (a .word) (known 600))
 
 -- one that never stores a write
 abbrev pub neverStores : Desk
-neverStores s word level operand count = asBefore s (accessOf s word level operand count .answer)
+neverStores s a = asBefore s (accessOf s a .answer)
 
 -- demand 2's tables: every access is answered, and leaves the state, as the rules say
 abbrev pub FollowsTheRules : Desk → Type 0
 FollowsTheRules desk =
-    (s : State) (word level operand count : ℕ) → desk s word level operand count ≡ accessOf s word level operand count
+    (s : State) (a : Access) → desk s a ≡ accessOf s a
 
 -- demand 3 admits it, and demand 2 does not
 pub record ShutOutByDemand2 (desk : Desk) : Type 0 where

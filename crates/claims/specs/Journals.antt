@@ -6,17 +6,12 @@ use lib.ListN.{length, take}
 use Rattle.rules.specs.declared.record.Record.{Record}
 use Rattle.rules.specs.declared.state.State.{State}
 use Rattle.rules.specs.Journal.{recordBytes, recordAt, stateAfter, answersOf, runNumber, turns, runOf, bufferAfter}
-use Rattle.claims.specs.Desk.{Access}
-use Rattle.claims.specs.Guests.{TrappedGuest, Alike, SameShown, OnlyCntvMoved}
-
--- the access that a record holds
-abbrev pub accessIn : Record → Access
-accessIn r = record { word = r .word; level = r .level; operand = r .operand; count = r .count }
+use Rattle.claims.specs.Guests.{TrappedGuest, Alike, SameShown, AlikeAgain}
 
 -- two records alike but for counts, which are the same virtual count
 pub record SameRecord (s t : State) (r q : Record) : Type 0 where
   pub reserved : r .reserved ≡ q .reserved
-  pub shown : SameShown s t (accessIn r) (accessIn q)
+  pub shown : SameShown s t (r .access) (q .access)
 
 -- and so the first n of two journals
 abbrev pub JournalsShown : State → State → List ℕ → List ℕ → ℕ → Type 0
@@ -31,12 +26,10 @@ pub record Server : Type 0 where
 abbrev pub byTheRules : Server
 byTheRules = record { answers = answersOf; state = stateAfter }
 
--- after n records: the same answer bytes, the same virtual timer, and nothing else moved on either machine
+-- after n records: the same answer bytes, and machines that are alike again
 pub record RecordsAlike (server : Server) (s t : State) (journal other : List ℕ) (n : ℕ) : Type 0 where
   pub answers : server .answers s journal n ≡ server .answers t other n
-  pub cntv : server .state s journal n .timers .cntv ≡ server .state t other n .timers .cntv
-  pub here : OnlyCntvMoved s (server .state s journal n)
-  pub there : OnlyCntvMoved t (server .state t other n)
+  pub states : AlikeAgain s t (server .state s journal n) (server .state t other n)
 
 -- demand 3 for any number of records
 abbrev pub JournalDemand3 : Server → Type 0
@@ -48,16 +41,14 @@ JournalDemand3 server =
     RecordsAlike server s t journal other n
 
 -- two runs: the same number; the same bytes in their buffers as far as the answers go, and to the end where they lent the
--- same; the same virtual timer, and nothing else moved on either machine
+-- same; and machines that are alike again
 pub record RunsAlike (s t : State) (journal other answers buffer : List ℕ) : Type 0 where
   pub number : runOf s journal answers .number ≡ runOf t other buffer .number
   pub answered :
       take (turns journal answers * recordBytes) (bufferAfter s journal answers)
       ≡ take (turns journal answers * recordBytes) (bufferAfter t other buffer)
   pub whole : answers ≡ buffer → bufferAfter s journal answers ≡ bufferAfter t other buffer
-  pub cntv : runOf s journal answers .next .timers .cntv ≡ runOf t other buffer .next .timers .cntv
-  pub here : OnlyCntvMoved s (runOf s journal answers .next)
-  pub there : OnlyCntvMoved t (runOf t other buffer .next)
+  pub states : AlikeAgain s t (runOf s journal answers .next) (runOf t other buffer .next)
 
 -- the claim
 pub record JournalClaim : Type 0 where

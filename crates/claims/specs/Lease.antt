@@ -7,13 +7,14 @@ use mathlib.Core.List.{List, [], _∷_}
 use mathlib.Core.Logic.{_⊎_}
 use mathlib.Core.Path.{_≡_}
 use lib.Dec.{leb}
+use Rattle.rules.specs.declared.access.Access.{Access}
 use Rattle.rules.specs.declared.name.Part.the-variants.{Tval, Ctl}
 use Rattle.rules.specs.declared.state.State.{State}
 use Rattle.rules.specs.declared.state.TimerName.the-variants.{Cntv}
 use Rattle.rules.specs.declared.verdict.Target.{Target}
 use Rattle.rules.specs.declared.verdict.Target.the-variants.{Cntpct, Cntvct, Cntvoff, Timer}
 use Rattle.rules.specs.Bits.{bit}
-use Rattle.rules.specs.Names.{rtOf}
+use Rattle.rules.specs.Names.{writtenOperand}
 use Rattle.rules.specs.Arithmetic.{_plus_, _less_, signed32}
 use Rattle.rules.specs.Timers.{same, timerOf}
 use Rattle.rules.specs.Values.{known}
@@ -21,7 +22,7 @@ use Rattle.rules.specs.Answers.{doneRead}
 use Rattle.rules.specs.Context.{impossible}
 use Rattle.rules.specs.Access.{accessOf}
 use Rattle.rules.specs.Lines.{linesOf}
-use Rattle.claims.specs.Desk.{Access, serve, endState, PermittedWrite, PermittedRead, taken, NoneReaches}
+use Rattle.claims.specs.Desk.{endState, PermittedWrite, PermittedRead, NoneReaches}
 use Rattle.claims.specs.Guests.{TrappedGuest, Alike, AllShown}
 
 -- ---- words
@@ -36,7 +37,7 @@ lineAt s physical = linesOf s physical .cntv
 
 -- what a TVAL write sets: v plus n, v the virtual count and n the low 32 bits as signed
 abbrev pub deadlineOf : State → Access → ℕ
-deadlineOf s value = virtualAt s (value .count) plus signed32 (taken value)
+deadlineOf s value = virtualAt s (value .count) plus signed32 (writtenOperand value)
 
 -- a lease that ends at a deadline: CNTV is on and unmasked and its CVAL is the deadline, on a machine that can be
 pub record Lease (s : State) (deadline : ℕ) : Type 0 where
@@ -49,8 +50,8 @@ pub record Lease (s : State) (deadline : ℕ) : Type 0 where
 pub record Takes (s : State) (value control : Access) : Type 0 where
   pub tval : PermittedWrite s value (Timer Cntv Tval)
   pub ctl : PermittedWrite s control (Timer Cntv Ctl)
-  pub enable : bit 0 (taken control) ≡ true
-  pub unmask : bit 1 (taken control) ≡ false
+  pub enable : bit 0 (writtenOperand control) ≡ true
+  pub unmask : bit 1 (writtenOperand control) ≡ false
 
 abbrev pub InEitherOrder : Access → Access → List Access → Type 0
 InEitherOrder a b both = (both ≡ a ∷ b ∷ []) ⊎ (both ≡ b ∷ a ∷ [])
@@ -69,15 +70,15 @@ Renewed =
     (s : State) (old : ℕ) (value : Access) →
     Lease s old →
     PermittedWrite s value (Timer Cntv Tval) →
-    Lease (serve accessOf s value .next) (deadlineOf s value)
+    Lease (accessOf s value .next) (deadlineOf s value)
 
 -- and a permitted write of CTL with ENABLE 0 gives it back: the line is down at every count
 abbrev pub GivenBack : Type 0
 GivenBack =
     (s : State) (control : Access) (physical : ℕ) →
     PermittedWrite s control (Timer Cntv Ctl) →
-    bit 0 (taken control) ≡ false →
-    lineAt (serve accessOf s control .next) physical ≡ false
+    bit 0 (writtenOperand control) ≡ false →
+    lineAt (accessOf s control .next) physical ≡ false
 
 -- masked it is silent: whatever the timer holds, its line is down at every count
 abbrev pub MaskedIsSilent : Type 0
@@ -92,8 +93,8 @@ pub record EndsAt (s : State) (deadline : ℕ) : Type 0 where
   pub status :
       (a : Access) →
       PermittedRead s a (Timer Cntv Ctl) →
-      serve accessOf s a .answer
-      ≡ doneRead (rtOf (a .word)) (known (1 + cond (leb deadline (virtualAt s (a .count))) (2 ^ 2) 0))
+      accessOf s a .answer
+      ≡ doneRead (a .word) (known (1 + cond (leb deadline (virtualAt s (a .count))) (2 ^ 2) 0))
 
 abbrev pub EndsAtTheDeadline : Type 0
 EndsAtTheDeadline = (s : State) (deadline : ℕ) → Lease s deadline → EndsAt s deadline
@@ -167,7 +168,7 @@ pub record TvalTellsTheTruth : Type 0 where
       (s : State) (v x : ℕ) (a : Access) →
       Lease s (v plus signed32 x) →
       PermittedRead s a (Timer Cntv Tval) →
-      serve accessOf s a .answer ≡ doneRead (rtOf (a .word)) (known (ticksLeft v x (virtualAt s (a .count))))
+      accessOf s a .answer ≡ doneRead (a .word) (known (ticksLeft v x (virtualAt s (a .count))))
   -- taken as 32 signed bits they are the same number, if it fits
   pub signed : (v x w : ℕ) → Fits32 (ticksLeft v x w) → signed32 (ticksLeft v x w) ≡ ticksLeft v x w
   -- in plain numbers, n ticks ahead: v + n - w until then, over the counter's end too, where the line is up all the while
@@ -201,7 +202,7 @@ LeaseKept =
     Takes s value control →
     InEitherOrder value control both →
     NoneReaches OfTheLease (endState accessOf s both) accesses →
-    InPlainNumbers (endState accessOf (endState accessOf s both) accesses) (virtualAt s (value .count)) (taken value)
+    InPlainNumbers (endState accessOf (endState accessOf s both) accesses) (virtualAt s (value .count)) (writtenOperand value)
 
 pub record LeaseClaim : Type 0 where
   pub kept : LeaseKept

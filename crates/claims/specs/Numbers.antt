@@ -5,6 +5,7 @@ use mathlib.Core.Bool.{false}
 use mathlib.Core.List.{List}
 use mathlib.Core.Path.{_≡_}
 use lib.ListN.{length}
+use Rattle.rules.specs.declared.access.Access.{Access}
 use Rattle.rules.specs.declared.answer.Answer.{Answer}
 use Rattle.rules.specs.declared.record.Record.{Record}
 use Rattle.rules.specs.declared.state.State.{State}
@@ -25,15 +26,12 @@ pub record AnswerFor (word : ℕ) (a : Answer) : Type 0 where
   pub written : isMrs word ≡ false → Empty a
 
 abbrev pub EachAnswer : Type 0
-EachAnswer = (s : State) (word level operand count : ℕ) → AnswerFor word (accessOf s word level operand count .answer)
+EachAnswer = (s : State) (a : Access) → AnswerFor (a .word) (accessOf s a .answer)
 
 -- a record with a reserved bit set gets 6, with Rt, value and mask 0 and the state as before; any other is an access
 pub record EachRecord : Type 0 where
   pub reserved : (s : State) (r : Record) → (r .reserved ≡ 0 → ⊥) → recordServed s r ≡ asBefore s (answer 6 0 0 0)
-  pub clear :
-      (s : State) (r : Record) →
-      r .reserved ≡ 0 →
-      recordServed s r ≡ accessOf s (r .word) (r .level) (r .operand) (r .count)
+  pub clear : (s : State) (r : Record) → r .reserved ≡ 0 → recordServed s r ≡ accessOf s (r .access)
 
 -- a run gets 7 for a journal that is no whole number of records, or over 1,024 of them, whatever the buffer; else 8 for a
 -- buffer that is shorter than the journal; else 0

@@ -3,15 +3,15 @@ use Prim.Native.Nat.{_≤_}
 use mathlib.Core.Bool.{true}
 use mathlib.Core.Logic.{_⊎_}
 use mathlib.Core.Path.{_≡_}
+use Rattle.rules.specs.declared.access.Access.{Access}
 use Rattle.rules.specs.declared.state.State.{State}
 use Rattle.rules.specs.declared.verdict.Target.the-variants.{Cntpct}
 use Rattle.rules.specs.Bits.{bit}
-use Rattle.rules.specs.Names.{rtOf}
 use Rattle.rules.specs.Arithmetic.{_less_}
 use Rattle.rules.specs.Values.{known}
 use Rattle.rules.specs.Answers.{doneRead}
 use Rattle.rules.specs.Access.{accessOf}
-use Rattle.claims.specs.Desk.{Access, serve, PermittedRead}
+use Rattle.claims.specs.Desk.{PermittedRead}
 use Rattle.claims.specs.Grounds.{El2On}
 
 -- offset on: ECV, EL2 on, ECVEn 1, CNTHCTL.ECV 1, not host
@@ -28,10 +28,10 @@ pub record CntpctReads (s : State) (a : Access) : Type 0 where
   pub offset :
       a .level ≤ 1 →
       OffsetOn s →
-      serve accessOf s a .answer ≡ doneRead (rtOf (a .word)) (known (a .count less s .cntpoff))
+      accessOf s a .answer ≡ doneRead (a .word) (known (a .count less s .cntpoff))
   pub physical :
       (2 ≤ a .level) ⊎ (OffsetOn s → ⊥) →
-      serve accessOf s a .answer ≡ doneRead (rtOf (a .word)) (known (a .count))
+      accessOf s a .answer ≡ doneRead (a .word) (known (a .count))
 
 abbrev pub WhoSeesCntpoff : Type 0
 WhoSeesCntpoff = (s : State) (a : Access) → PermittedRead s a Cntpct → CntpctReads s a

@@ -3,6 +3,7 @@ use Prim.Native.Nat.{ℕ, _<_, _^_}
 use mathlib.Core.Bool.{true}
 use mathlib.Core.List.{List, [], _∷_}
 use mathlib.Core.Path.{_≡_}
+use Rattle.rules.specs.declared.access.Access.{Access}
 use Rattle.rules.specs.declared.answer.Value.{Value}
 use Rattle.rules.specs.declared.name.Lookup.{Lookup}
 use Rattle.rules.specs.declared.name.Name.{Name}
@@ -14,13 +15,13 @@ use Rattle.rules.specs.declared.state.Timer.{Timer}
 use Rattle.rules.specs.declared.state.TimerName.{TimerName}
 use Rattle.rules.specs.declared.verdict.Target.{Target}
 use Rattle.rules.specs.Bits.{bits, bit}
-use Rattle.rules.specs.Names.{nameOf, rtOf}
+use Rattle.rules.specs.Names.{nameOf, writtenOperand}
 use Rattle.rules.specs.Timers.{same, get}
 use Rattle.rules.specs.States.{withTimers}
 use Rattle.rules.specs.Values.{readTval, writeTval}
 use Rattle.rules.specs.Answers.{doneRead}
 use Rattle.rules.specs.Access.{accessOf}
-use Rattle.claims.specs.Desk.{Access, serve, endState, Permitted, PermittedWrite, PermittedRead, taken, NoneReaches}
+use Rattle.claims.specs.Desk.{endState, Permitted, PermittedWrite, PermittedRead, NoneReaches}
 
 abbrev pub low32 : ℕ → ℕ
 low32 x = bits 31 0 x
@@ -52,7 +53,7 @@ pub record WrittenThenRead (s : State) (w : Access) (between : List Access) (r :
   pub count : r .count ≡ w .count
   pub fits : w .count < 2 ^ 64
   pub context : SameContext s (endState accessOf s (w ∷ between))
-  pub cval : get (endState accessOf s (w ∷ between) .timers) t .cval ≡ get (serve accessOf s w .next .timers) t .cval
+  pub cval : get (endState accessOf s (w ∷ between) .timers) t .cval ≡ get (accessOf s w .next .timers) t .cval
   pub enabled : get (endState accessOf s (w ∷ between) .timers) t .enable ≡ true
 
 -- then it is done, with the same low 32 bits as the write took, which is 0 for Rt 31
@@ -61,8 +62,8 @@ TvalReadsBack =
     (s : State) (w : Access) (between : List Access) (r : Access) (t : TimerName) →
     WrittenThenRead s w between r t →
     (v : Value) ×
-    (serve accessOf (endState accessOf s (w ∷ between)) r .answer ≡ doneRead (rtOf (r .word)) v) ×
-    ReadsLow v (taken w)
+    (accessOf (endState accessOf s (w ∷ between)) r .answer ≡ doneRead (r .word) v) ×
+    ReadsLow v (writtenOperand w)
 
 -- the registers that what was written hangs on: CNTVOFF, and of the timer itself TVAL and CVAL. CTL is not among them, so the
 -- timer may be enabled after the write
@@ -86,8 +87,8 @@ abbrev pub EnabledAfterwards : Type 0
 EnabledAfterwards =
     (s : State) (w control r : Access) (t : TimerName) →
     PermittedWrite s w (Target.Timer t Tval) →
-    PermittedWrite (serve accessOf s w .next) control (Target.Timer t Ctl) →
-    bit 0 (taken control) ≡ true →
+    PermittedWrite (accessOf s w .next) control (Target.Timer t Ctl) →
+    bit 0 (writtenOperand control) ≡ true →
     PermittedRead (endState accessOf s (w ∷ control ∷ [])) r (Target.Timer t Tval) →
     r .level ≡ w .level →
     r .count ≡ w .count →
@@ -115,12 +116,11 @@ HasTval (Cnthvs p) = IsTval p
 -- TVAL of the same timer
 abbrev pub ReadFollowsWrite : Type 0
 ReadFollowsWrite =
-    (s later : State) (write read level : ℕ) (name : Name) (target : Target) →
+    (s later : State) (w r : Access) (name : Name) (target : Target) →
     HasTval name →
-    nameOf write ≡ Lookup.Named name →
-    nameOf read ≡ Lookup.Named name →
+    nameOf (w .word) ≡ Lookup.Named name →
+    nameOf (r .word) ≡ Lookup.Named name →
+    r .level ≡ w .level →
     SameContext s later →
-    Permitted s write level target →
-    (t : TimerName) ×
-    (target ≡ Target.Timer t Tval) ×
-    Permitted later read level (Target.Timer t Tval)
+    Permitted s w target →
+    (t : TimerName) × (target ≡ Target.Timer t Tval) × Permitted later r (Target.Timer t Tval)

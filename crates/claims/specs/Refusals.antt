@@ -3,6 +3,7 @@ use Prim.Native.Nat.{ℕ}
 use mathlib.Core.Bool.{true}
 use mathlib.Core.List.{List}
 use mathlib.Core.Path.{_≡_}
+use Rattle.rules.specs.declared.access.Access.{Access}
 use Rattle.rules.specs.declared.record.Record.{Record}
 use Rattle.rules.specs.declared.state.State.{State}
 use Rattle.rules.specs.Names.{isMrs}
@@ -12,10 +13,7 @@ use Rattle.rules.specs.Journal.{recordServed, runOf, bufferAfter}
 
 -- an answer other than 0 leaves the state as it was
 abbrev pub RefusalsMoveNothing : Type 0
-RefusalsMoveNothing =
-    (s : State) (word level operand count : ℕ) →
-    (accessOf s word level operand count .answer .number ≡ done → ⊥) →
-    accessOf s word level operand count .next ≡ s
+RefusalsMoveNothing = (s : State) (a : Access) → (accessOf s a .answer .number ≡ done → ⊥) → accessOf s a .next ≡ s
 
 -- so does a record of a journal that is answered other than with 0, as one with a reserved bit set is with 6
 abbrev pub RecordRefusalsMoveNothing : Type 0
@@ -31,5 +29,4 @@ RunRefusalsMoveNothing =
 
 -- a read leaves the state as it was
 abbrev pub ReadsMoveNothing : Type 0
-ReadsMoveNothing =
-    (s : State) (word level operand count : ℕ) → isMrs word ≡ true → accessOf s word level operand count .next ≡ s
+ReadsMoveNothing = (s : State) (a : Access) → isMrs (a .word) ≡ true → accessOf s a .next ≡ s

@@ -3,17 +3,19 @@ use Prim.Native.Nat.{ℕ}
 use mathlib.Core.Bool.{true, false}
 use mathlib.Core.List.{List, [], _∷_}
 use mathlib.Core.Path.{_≡_}
+use Rattle.rules.specs.declared.access.Access.{Access}
 use Rattle.rules.specs.declared.answer.Answer.{Answer}
 use Rattle.rules.specs.declared.state.State.{State}
 use Rattle.rules.specs.declared.state.TimerName.{TimerName}
 use Rattle.rules.specs.declared.state.TimerName.the-variants.{Cntv}
 use Rattle.rules.specs.Words.{EL1}
 use Rattle.rules.specs.Timers.{same, timerOf, get, six, put}
+use Rattle.rules.specs.Names.{anAccess}
 use Rattle.rules.specs.Values.{known}
 use Rattle.rules.specs.Answers.{doneRead, doneWrite}
 use Rattle.rules.specs.Access.{accessOf}
 use Rattle.rules.specs.Readings.{start}
-use Rattle.claims.specs.Desk.{Access, answersTo, endState}
+use Rattle.claims.specs.Desk.{answersTo, endState}
 use Rattle.claims.specs.Guests.{TrappedGuest, Alike, AllShown}
 
 -- CNTVOFF 0 and not 400, CNTPOFF 7 and not 0, and every timer but CNTV set to 5 and enabled
@@ -29,14 +31,11 @@ secondMachine =
 
 -- the guest sets its virtual timer by TVAL, as in reading 4, and reads CNTVCT, as in reading 1
 abbrev pub asks : ℕ → List Access
-asks count =
-    record { word = 0xD51BE301; level = EL1; operand = 0xFFFFFFFF; count = count }
-    ∷ record { word = 0xD53BE040; level = EL1; operand = 0; count = count }
-    ∷ []
+asks count = anAccess 0xD51BE301 EL1 0xFFFFFFFF count ∷ anAccess 0xD53BE040 EL1 0 count ∷ []
 
 -- and is told: done, and 600
 abbrev pub told : List Answer
-told = doneWrite 1 ∷ doneRead 0 (known 600) ∷ []
+told = doneWrite 0xD51BE301 ∷ doneRead 0xD53BE040 (known 600) ∷ []
 
 -- the two meet what demand 3 asks at the counts 1000 and 600, differ in all that may differ, and the guest is served on both
 pub record TwoMachines : Type 0 where

@@ -1,7 +1,8 @@
-// The answers by their numbers (document 01, 'What the desk answers').
+// The answers by their numbers, 0 to 3 made from the word (document 01, 'What the desk answers').
 ghost use mathlib.Core.Path.{_≡_};
 ghost use Rattle.rules.specs.Answers.{doneRead, doneWrite, undefinedAt, asBefore};
 ghost use Rattle.rules.specs.Answers as rule;
+use registers::rt;
 use rules::Answer;
 use rules::Outcome;
 use rules::State;
@@ -19,48 +20,41 @@ pub const NOT_A_TIMER_ACCESS: u8 = 4;
 
 pub const IMPOSSIBLE_CONTEXT: u8 = 5;
 
-pub fn done_read(rt: u8, v: Value) -> Answer
-    ensures { λ r. ⌜ r ≡ doneRead rt v ⌝ }
+// 0 to 3 give the word's Rt.
+fn answered(number: u8, word: u32, value: u64, mask: u64) -> Answer
+    ensures { λ r. ⌜ r ≡ rule.answered number word value mask ⌝ }
 {
-    Answer {
-        number: DONE,
-        rt,
-        value: v.value,
-        mask: v.mask,
-    }
-}
-
-pub fn done_write(rt: u8) -> Answer
-    ensures { λ r. ⌜ r ≡ doneWrite rt ⌝ }
-{
-    Answer {
-        number: DONE,
-        rt,
-        value: 0,
-        mask: 0,
-    }
-}
-
-pub fn undefined(rt: u8) -> Answer
-    ensures { λ r. ⌜ r ≡ undefinedAt rt ⌝ }
-{
-    Answer {
-        number: UNDEFINED,
-        rt,
-        value: 0,
-        mask: 0,
-    }
-}
-
-pub fn trapped(number: u8, rt: u8) -> Answer
-    ensures { λ r. ⌜ r ≡ rule.trapped number rt ⌝ }
-{
+    let rt = rt(word);
     Answer {
         number,
         rt,
-        value: 0,
-        mask: 0,
+        value,
+        mask,
     }
+}
+
+pub fn done_read(word: u32, v: Value) -> Answer
+    ensures { λ r. ⌜ r ≡ doneRead word v ⌝ }
+{
+    answered(DONE, word, v.value, v.mask)
+}
+
+pub fn done_write(word: u32) -> Answer
+    ensures { λ r. ⌜ r ≡ doneWrite word ⌝ }
+{
+    answered(DONE, word, 0, 0)
+}
+
+pub fn undefined(word: u32) -> Answer
+    ensures { λ r. ⌜ r ≡ undefinedAt word ⌝ }
+{
+    answered(UNDEFINED, word, 0, 0)
+}
+
+pub fn trapped(number: u8, word: u32) -> Answer
+    ensures { λ r. ⌜ r ≡ rule.trapped number word ⌝ }
+{
+    answered(number, word, 0, 0)
 }
 
 pub fn refused(number: u8) -> Answer

@@ -19,6 +19,7 @@ use gates::verdict;
 use registers::Register;
 use registers::is_mrs;
 use registers::rt;
+use rules::Access;
 use rules::Facts;
 use rules::Lookup;
 use rules::Name;
@@ -30,60 +31,64 @@ use timers::read;
 use timers::write;
 
 // MSR with Rt 31 writes 0.
-fn written_operand(word: u32, operand: u64) -> u64
-    ensures { λ r. ⌜ r ≡ writtenOperand word operand ⌝ }
+fn written_operand(a: Access) -> u64
+    ensures { λ r. ⌜ r ≡ writtenOperand a ⌝ }
 {
-    let rt = rt(word);
+    let operand = a.operand;
+    let rt = rt(a.word);
     let zero = rt == 31;
     if zero { 0 } else { operand }
 }
 
-fn permitted(f: Facts, s: State, word: u32, operand: u64, physical: u64, target: Target) -> Outcome
-    ensures { λ r. ⌜ r ≡ rule.permitted f s word operand physical target ⌝ }
+fn permitted(f: Facts, s: State, a: Access, target: Target) -> Outcome
+    ensures { λ r. ⌜ r ≡ rule.permitted f s a target ⌝ }
 {
-    let rt = rt(word);
+    let word = a.word;
+    let count = a.count;
     if is_mrs(word) {
-        let value = read(f, s, physical, target);
-        as_before(s, done_read(rt, value))
+        let value = read(f, s, count, target);
+        as_before(s, done_read(word, value))
     } else {
-        let next = write(f, s, physical, target, written_operand(word, operand));
+        let next = write(f, s, count, target, written_operand(a));
         Outcome {
-            answer: done_write(rt),
+            answer: done_write(word),
             next,
         }
     }
 }
 
-fn ruled(f: Facts, s: State, word: u32, operand: u64, physical: u64, verdict: Verdict) -> Outcome
-    ensures { λ r. ⌜ r ≡ rule.ruled f s word operand physical verdict ⌝ }
+fn ruled(f: Facts, s: State, a: Access, verdict: Verdict) -> Outcome
+    ensures { λ r. ⌜ r ≡ rule.ruled f s a verdict ⌝ }
 {
-    let rt = rt(word);
+    let word = a.word;
     match verdict {
-        Verdict::Undefined => as_before(s, undefined(rt)),
-        Verdict::ToEl1 => as_before(s, trapped(TRAP_TO_EL1, rt)),
-        Verdict::ToEl2 => as_before(s, trapped(TRAP_TO_EL2, rt)),
-        Verdict::Reaches(target) => permitted(f, s, word, operand, physical, target),
+        Verdict::Undefined => as_before(s, undefined(word)),
+        Verdict::ToEl1 => as_before(s, trapped(TRAP_TO_EL1, word)),
+        Verdict::ToEl2 => as_before(s, trapped(TRAP_TO_EL2, word)),
+        Verdict::Reaches(target) => permitted(f, s, a, target),
     }
 }
 
-fn named(s: State, word: u32, level: u8, operand: u64, physical: u64, name: Name) -> Outcome
-    ensures { λ r. ⌜ r ≡ served s word level operand physical (Lookup.Named name) ⌝ }
+fn named(s: State, a: Access, name: Name) -> Outcome
+    ensures { λ r. ⌜ r ≡ served s a (Lookup.Named name) ⌝ }
 {
+    let word = a.word;
+    let level = a.level;
     if impossible_at(s, level) {
         return as_before(s, refused(IMPOSSIBLE_CONTEXT));
     }
     let f = facts(s, level);
     let verdict = verdict(f, name, is_mrs(word));
-    ruled(f, s, word, operand, physical, verdict)
+    ruled(f, s, a, verdict)
 }
 
-// Any word, level, operand and count is answered, on any state.
-pub fn access(s: State, word: u32, level: u8, operand: u64, physical: u64) -> Outcome
-    ensures { λ r. ⌜ r ≡ accessOf s word level operand physical ⌝ }
+// Any access is answered, on any state.
+pub fn access(s: State, a: Access) -> Outcome
+    ensures { λ r. ⌜ r ≡ accessOf s a ⌝ }
 {
-    let found = Register::named_by(word);
+    let found = Register::named_by(a.word);
     match found {
         Lookup::NotNamed => as_before(s, refused(NOT_A_TIMER_ACCESS)),
-        Lookup::Named(name) => named(s, word, level, operand, physical, name),
+        Lookup::Named(name) => named(s, a, name),
     }
 }

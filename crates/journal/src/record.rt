@@ -11,6 +11,7 @@ use crate::bytes::write_word;
 use desk::access;
 use desk::as_before;
 use desk::refused;
+use rules::Access;
 use rules::Answer;
 use rules::Outcome;
 use rules::Record;
@@ -25,28 +26,27 @@ pub(crate) fn read_record(journal: &[u8], at: usize) -> Record
     let head = read_word(journal, at);
     let operand = read_word(journal, at + 8);
     let count = read_word(journal, at + 16);
+    let word = ((head >> 32) % 0x1_0000_0000) as u32;
+    let level = ((head >> 30) % 4) as u8;
+    let reserved = ((head >> 0) % 0x4000_0000) as u32;
     Record {
-        word: ((head >> 32) % 0x1_0000_0000) as u32,
-        level: ((head >> 30) % 4) as u8,
-        reserved: ((head >> 0) % 0x4000_0000) as u32,
-        operand,
-        count,
+        access: Access {
+            word,
+            level,
+            operand,
+            count,
+        },
+        reserved,
     }
 }
 
 pub fn serve(s: State, r: Record) -> Outcome
     ensures { λ o. ⌜ o ≡ recordServed s r ⌝ }
 {
-    let Record {
-        word,
-        level,
-        reserved,
-        operand,
-        count,
-    } = r;
-    let clear = reserved == 0;
+    let asked = r.access;
+    let clear = r.reserved == 0;
     if clear {
-        access(s, word, level, operand, count)
+        access(s, asked)
     } else {
         as_before(s, refused(RESERVED_BIT_SET))
     }

@@ -4,23 +4,18 @@ ghost use mathlib.Core.Path.{_≡_};
 ghost use Rattle.rules.specs.Access.{accessOf};
 ghost use Rattle.rules.specs.Journal.{runOf, bufferAfter};
 ghost use Rattle.rules.specs.Lines.{linesOf};
+use rules::Access;
 use rules::Answer;
 use rules::Lines;
 use rules::State;
 
 // One access: the same answer as by value, and the state as the by-value access leaves it.
 #[no_mangle]
-pub extern "C" fn elsterkabel_access_in(
-    s: &mut State,
-    word: u32,
-    level: u8,
-    operand: u64,
-    count: u64,
-) -> Answer
-    ensures { λ r. ⌜ r ≡ accessOf (now (s .entry)) word level operand count .answer ⌝ }
-    ensures { λ _. ⌜ now (s .exit) ≡ accessOf (now (s .entry)) word level operand count .next ⌝ }
+pub extern "C" fn elsterkabel_access_in(s: &mut State, access: Access) -> Answer
+    ensures { λ r. ⌜ r ≡ accessOf (now (s .entry)) access .answer ⌝ }
+    ensures { λ _. ⌜ now (s .exit) ≡ accessOf (now (s .entry)) access .next ⌝ }
 {
-    let outcome = desk::access(*s, word, level, operand, count);
+    let outcome = desk::access(*s, access);
     *s = outcome.next;
     outcome.answer
 }

@@ -4,6 +4,7 @@ use Rattle.rules.specs.declared.answer.Answer.{Answer}
 use Rattle.rules.specs.declared.answer.Outcome.{Outcome}
 use Rattle.rules.specs.declared.answer.Value.{Value}
 use Rattle.rules.specs.declared.state.State.{State}
+use Rattle.rules.specs.Names.{rtOf}
 
 -- 0, done
 abbrev pub done : ℕ
@@ -36,21 +37,25 @@ reservedBitSet = 6
 abbrev pub answer : ℕ → ℕ → ℕ → ℕ → Answer
 answer number rt value mask = record { number = number; rt = rt; value = value; mask = mask }
 
--- done, a read: the word's Rt, value and unknown mask
+-- 0 to 3 give the word's Rt
+abbrev pub answered : ℕ → ℕ → ℕ → ℕ → Answer
+answered number word value mask = answer number (rtOf word) value mask
+
+-- done, a read: value and unknown mask
 abbrev pub doneRead : ℕ → Value → Answer
-doneRead rt v = answer done rt (v .value) (v .mask)
+doneRead word v = answered done word (v .value) (v .mask)
 
--- done, a write: the word's Rt, both 0
+-- done, a write: both 0
 abbrev pub doneWrite : ℕ → Answer
-doneWrite rt = answer done rt 0 0
+doneWrite word = answered done word 0 0
 
--- Undefined: the word's Rt, value and mask 0
+-- Undefined: value and mask 0
 abbrev pub undefinedAt : ℕ → Answer
-undefinedAt rt = answer undefined rt 0 0
+undefinedAt word = answered undefined word 0 0
 
 -- a trap: as Undefined
 abbrev pub trapped : ℕ → ℕ → Answer
-trapped number rt = answer number rt 0 0
+trapped number word = answered number word 0 0
 
 -- a refusal: Rt, value and mask 0
 abbrev pub refused : ℕ → Answer

@@ -9,6 +9,7 @@ use Rattle.rules.specs.declared.answer.Outcome.{Outcome}
 use Rattle.rules.specs.declared.record.Record.{Record}
 use Rattle.rules.specs.declared.record.Run.{Run}
 use Rattle.rules.specs.declared.state.State.{State}
+use Rattle.rules.specs.Names.{anAccess}
 use Rattle.rules.specs.Packing.{Field, field, bytesOfWords, wordAt, cut, nth}
 use Rattle.rules.specs.Answers.{done, reservedBitSet, refused, asBefore}
 use Rattle.rules.specs.Access.{accessOf}
@@ -24,12 +25,10 @@ limit = 1024
 -- a record: word 32, level 2, reserved 30, operand 64, physical count 64
 abbrev pub recordOf : ℕ → ℕ → ℕ → Record
 recordOf head operand count =
+    let fields : List ℕ = cut (32 ∷ 2 ∷ 30 ∷ []) head in
     record {
-      word = nth 0 (cut (32 ∷ 2 ∷ 30 ∷ []) head);
-      level = nth 1 (cut (32 ∷ 2 ∷ 30 ∷ []) head);
-      reserved = nth 2 (cut (32 ∷ 2 ∷ 30 ∷ []) head);
-      operand = operand;
-      count = count;
+      access = anAccess (nth 0 fields) (nth 1 fields) operand count;
+      reserved = nth 2 fields;
     }
 
 -- the record at a place of a journal
@@ -51,7 +50,7 @@ answerBytes a = bytesOfWords (answerWords a)
 unfoldable pub recordServed : State → Record → Outcome
 recordServed s r =
     cond (eqb (r .reserved) 0)
-    (accessOf s (r .word) (r .level) (r .operand) (r .count))
+    (accessOf s (r .access))
     (asBefore s (refused reservedBitSet))
 
 -- records run in order on one state, and a refused record doesn't stop the run: the state after the first n, and their

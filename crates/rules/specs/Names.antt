@@ -3,6 +3,7 @@ use Prim.Native.Nat.{ℕ, _+_}
 use mathlib.Core.Bool.{Bool, cond, _&&_}
 use mathlib.Core.List.{List, [], _∷_}
 use lib.Dec.{eqb}
+use Rattle.rules.specs.declared.access.Access.{Access}
 use Rattle.rules.specs.declared.name.Name.{Name}
 use Rattle.rules.specs.declared.name.Name.the-variants.{Cntpct, Cntvct, Cntpctss, Cntvctss, Cntp, Cntv, Cntvoff, Cnthp, Cnthvs}
 use Rattle.rules.specs.declared.name.Part.the-variants.{Tval, Ctl, Cval}
@@ -37,9 +38,13 @@ op2Of word = bits 7 5 word
 abbrev pub rtOf : ℕ → ℕ
 rtOf word = bits 4 0 word
 
+-- an access by its word, level, operand and count
+abbrev pub anAccess : ℕ → ℕ → ℕ → ℕ → Access
+anAccess word level operand count = record { word = word; level = level; operand = operand; count = count }
+
 -- MSR with Rt 31 writes 0, whatever operand is lent
-abbrev pub writtenOperand : ℕ → ℕ → ℕ
-writtenOperand word operand = cond (eqb (rtOf word) 31) 0 operand
+abbrev pub writtenOperand : Access → ℕ
+writtenOperand a = cond (eqb (rtOf (a .word)) 31) 0 (a .operand)
 
 -- a register: one name with its five encoding numbers
 pub record Row : Type 0 where

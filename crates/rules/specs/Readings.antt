@@ -4,12 +4,14 @@ use Prim.Native.Nat.{ℕ}
 use mathlib.Core.Bool.{Bool, true, false}
 use mathlib.Core.List.{List, [], _∷_, map}
 use mathlib.Core.Path.{_≡_}
+use Rattle.rules.specs.declared.access.Access.{Access}
 use Rattle.rules.specs.declared.answer.Answer.{Answer}
 use Rattle.rules.specs.declared.answer.Outcome.{Outcome}
 use Rattle.rules.specs.declared.state.Controls.{Controls}
 use Rattle.rules.specs.declared.state.State.{State}
 use Rattle.rules.specs.declared.state.Timer.{Timer}
 use Rattle.rules.specs.Words.{EL0, EL1, EL2}
+use Rattle.rules.specs.Names.{anAccess}
 use Rattle.rules.specs.Timers.{timerOf}
 use Rattle.rules.specs.Answers.{answer, asBefore}
 use Rattle.rules.specs.Access.{accessOf}
@@ -51,26 +53,20 @@ withCnthp cnthp = bench startControls disabled cnthp
 
 pub record Reading : Type 0 where
   pub state : State
-  pub word : ℕ
-  pub level : ℕ
-  pub operand : ℕ
-  pub count : ℕ
+  pub access : Access
   pub told : Outcome
 
 -- a read, which leaves the state as it was
 abbrev mrs : State → ℕ → ℕ → ℕ → Answer → Reading
 mrs s word level count a =
-    record { state = s; word = word; level = level; operand = 0; count = count; told = asBefore s a }
+    record { state = s; access = anAccess word level 0 count; told = asBefore s a }
 
 -- a write from the start, at EL1 and count 1000, with what CNTV then holds
 abbrev msr : ℕ → ℕ → Answer → Timer → Reading
 msr word operand a cntv =
     record {
       state = start;
-      word = word;
-      level = EL1;
-      operand = operand;
-      count = 1000;
+      access = anAccess word EL1 operand 1000;
       told = record { answer = a; next = withCntv cntv };
     }
 
@@ -100,7 +96,7 @@ readings =
 
 -- what the rules answer to a reading's access
 abbrev pub asked : Reading → Outcome
-asked r = accessOf (r .state) (r .word) (r .level) (r .operand) (r .count)
+asked r = accessOf (r .state) (r .access)
 
 -- the claim: the rules answer each row as the bench did
 abbrev pub ReadingsHold : Type 0

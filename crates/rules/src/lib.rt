@@ -1,4 +1,5 @@
 // The types of the answer desk, by value. What they mean, the rulebook of document 01, stands in specs/.
+mod access;
 mod answer;
 mod facts;
 mod name;
@@ -6,6 +7,7 @@ mod record;
 mod state;
 mod verdict;
 
+pub use access::Access;
 pub use answer::Answer;
 pub use answer::Lines;
 pub use answer::Outcome;

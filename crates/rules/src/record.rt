@@ -1,12 +1,10 @@
 // The access journal (document 01): one record of it, and what a run over it comes to.
+use crate::access::Access;
 use crate::state::State;
 
 pub struct Record {
-    pub word: u32,
-    pub level: u8,
+    pub access: Access,
     pub reserved: u32,
-    pub operand: u64,
-    pub count: u64,
 }
 
 // The number that a run answers itself, and the state that it leaves.

@@ -7,9 +7,6 @@ use Rattle.rules.specs.Access.{permitted}
 use Rattle.desk.proofs.one_access.permitted.Statement.{statement}
 use Rattle.desk.proofs.one_access.permitted.Tie as tie
 
-rt-requires : tie.Need-rt-requires
-rt-requires c κs = search needs
-
 is-mrs-requires : tie.Need-is-mrs-requires
 is-mrs-requires c κs = search needs
 
@@ -33,17 +30,16 @@ done-write-requires c κs = search needs
 
 returns : tie.Need-returns
 unfolding permitted
-returns c = rw (sym (c .before .before .before .before .is-mrs .ensures) ∙ c .before .before .before .if1 .taken, ← c .before .before .before .before .before .rt .ensures, ← c .before .before .read .ensures, ← c .before .done-read .ensures) (c .as-before .ensures)
+returns c = rw (sym (c .before .before .before .before .is-mrs .ensures) ∙ c .before .before .before .if1 .taken, ← c .before .before .read .ensures, ← c .before .done-read .ensures) (c .as-before .ensures)
 
 returns-2 : tie.Need-returns-2
 unfolding permitted
-returns-2 c = rw (sym (c .before .before .before .before .is-mrs .ensures) ∙ c .before .before .before .if1 .left, c .done-write .ensures, c .before .write .ensures, c .before .before .written-operand .ensures, c .before .before .before .before .before .rt .ensures)
+returns-2 c = rw (sym (c .before .before .before .before .is-mrs .ensures) ∙ c .before .before .before .if1 .left, c .done-write .ensures, c .before .write .ensures, c .before .before .written-operand .ensures)
 
 pub permitted-spec : {M : Type 1} → statement M
 permitted-spec =
     tie.close
     (tie.spec
-    rt-requires
     is-mrs-requires
     read-requires
     done-read-requires

@@ -5,9 +5,6 @@ use Rattle.rules.specs.Access.{ruled}
 use Rattle.desk.proofs.one_access.ruled.Statement.{statement}
 use Rattle.desk.proofs.one_access.ruled.Tie as tie
 
-rt-requires : tie.Need-rt-requires
-rt-requires c κs = search needs
-
 enum-told : tie.Need-enum-told
 enum-told c = search needs
 
@@ -43,15 +40,15 @@ permitted-requires c κs = search needs
 
 returns : tie.Need-returns
 unfolding ruled
-returns c = rw (c .before .before .enum-told .given .1, ← c .before .before .before .before .rt .ensures, ← c .before .undefined .ensures) (c .as-before .ensures)
+returns c = rw (c .before .before .enum-told .given .1, ← c .before .undefined .ensures) (c .as-before .ensures)
 
 returns-2 : tie.Need-returns-2
 unfolding ruled
-returns-2 c = rw (c .before .before .enum-told2 .given .1, ← c .before .before .before .before .rt .ensures, ← c .before .trapped .ensures) (c .as-before2 .ensures)
+returns-2 c = rw (c .before .before .enum-told2 .given .1, ← c .before .trapped .ensures) (c .as-before2 .ensures)
 
 returns-3 : tie.Need-returns-3
 unfolding ruled
-returns-3 c = rw (c .before .before .enum-told3 .given .1, ← c .before .before .before .before .rt .ensures, ← c .before .trapped2 .ensures) (c .as-before3 .ensures)
+returns-3 c = rw (c .before .before .enum-told3 .given .1, ← c .before .trapped2 .ensures) (c .as-before3 .ensures)
 
 returns-4 : tie.Need-returns-4
 unfolding ruled
@@ -61,7 +58,6 @@ pub ruled-spec : {M : Type 1} → statement M
 ruled-spec =
     tie.close
     (tie.spec
-    rt-requires
     enum-told
     undefined-requires
     as-before-requires

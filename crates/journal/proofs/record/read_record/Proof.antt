@@ -20,14 +20,14 @@ add-read-word-2 c = search needs
 read-word-requires-3 : tie.Need-read-word-requires-3
 read-word-requires-3 c κs = search needs
 
-cast-t9 : tie.Need-cast-t9
-cast-t9 c = search needs
+cast-word : tie.Need-cast-word
+cast-word c = search needs
 
-cast-t12 : tie.Need-cast-t12
-cast-t12 c = search needs
+cast-level : tie.Need-cast-level
+cast-level c = search needs
 
-cast-t15 : tie.Need-cast-t15
-cast-t15 c = search needs
+cast-reserved : tie.Need-cast-reserved
+cast-reserved c = search needs
 
 returns : tie.Need-returns
 unfolding recordAt
@@ -42,7 +42,7 @@ read-record-spec =
     read-word-requires-2
     add-read-word-2
     read-word-requires-3
-    cast-t9
-    cast-t12
-    cast-t15
+    cast-word
+    cast-level
+    cast-reserved
     returns)
