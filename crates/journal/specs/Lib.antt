@@ -1,2 +1,3 @@
--- What the contracts cite beside the rulebook.
+-- What this room alone needs: bytes low one first, and a journal's last count.
+pub mod LowFirst
 pub mod Last

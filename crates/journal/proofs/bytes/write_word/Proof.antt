@@ -1,13 +1,18 @@
--- `write_word` meets its contract: eight stores fill the eight bytes.
+-- `write_word` meets its contract: eight stores fill the eight bytes, with the bytes of the word that was turned round, low one
+-- first.
 -- Assumes nothing.
 use borrow.Author.Needs.{needs}
+use mathlib.Core.Path.{ap, _∙_}
 use native.Mathlib.Omega.{arith}
 use lib.ListN.{length-set}
 use denote.Ref.{now}
-use Rattle.rules.specs.Packing.{bytesOf}
+use Rattle.journal.proofs.LowFirst.{lowBytes, stored-turned}
 use Rattle.journal.proofs.Stores.{all-stored}
 use Rattle.journal.proofs.bytes.write_word.Statement.{statement}
 use Rattle.journal.proofs.bytes.write_word.Tie as tie
+
+turned-requires : tie.Need-turned-requires
+turned-requires c κs = search needs
 
 cast-bytes : tie.Need-cast-bytes
 cast-bytes c = search needs
@@ -61,12 +66,15 @@ same-length : tie.Need-same-length
 same-length c = search needs
 
 returns : tie.Need-returns
-returns c = all-stored (bytesOf (c .args .x)) (now (c .args .bytes)) (c .pre)
+returns c =
+    let start = c .before .before in
+    all-stored (lowBytes (c .turned .result)) (now (start .args .bytes)) (start .pre) ∙ ap lowBytes (c .turned .ensures) ∙ stored-turned (start .args .x)
 
 pub write-word-spec : {M : Type 1} → statement M
 write-word-spec =
     tie.close
     (tie.spec
+    turned-requires
     cast-bytes
     slice-write-bytes
     cast-bytes-2
