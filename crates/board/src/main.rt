@@ -4,10 +4,12 @@ mod start_state;
 
 use libc::STDIN_FILENO;
 use libc::STDOUT_FILENO;
+use rules::RECORD_BYTES;
+use rules::RECORD_LIMIT;
 use start_state::start;
 
 // Twice the longest journal, so that it is the run that refuses a longer one, and not the end of a buffer.
-const ROOM: usize = 2 * 1024 * 24;
+const ROOM: usize = 2 * RECORD_LIMIT * RECORD_BYTES;
 
 fn main() {
     let mut input = [0u8; ROOM];

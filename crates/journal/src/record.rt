@@ -14,6 +14,7 @@ use desk::refused;
 use rules::Access;
 use rules::Answer;
 use rules::Outcome;
+use rules::RECORD_BYTES;
 use rules::Record;
 use rules::State;
 
@@ -89,7 +90,7 @@ pub fn last_count(journal: &[u8]) -> u64
     ensures { λ r. ⌜ r ≡ lastCount (now (journal .entry)) ⌝ }
 {
     let n = journal.len();
-    if n < 24 {
+    if n < RECORD_BYTES {
         return 0;
     }
     read_word(journal, n - 8)

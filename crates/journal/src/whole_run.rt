@@ -7,11 +7,10 @@ ghost use Rattle.rules.specs.Journal.{recordBytes, recordAt, recordServed, answ
 use crate::record::pack;
 use crate::record::read_record;
 use crate::record::serve;
+use rules::RECORD_BYTES;
+use rules::RECORD_LIMIT;
 use rules::Run;
 use rules::State;
-
-// The most records that a journal may have.
-const LIMIT: usize = 1024;
 
 const BAD_JOURNAL: u8 = 7;
 
@@ -27,7 +26,7 @@ fn turn(s: State, journal: &[u8], answers: &mut [u8], at: usize) -> State
     let record = read_record(journal, at);
     let outcome = serve(s, record);
     let answer = outcome.answer;
-    pack(&mut answers[at..at + 24], answer);
+    pack(&mut answers[at..at + RECORD_BYTES], answer);
     outcome.next
 }
 
@@ -40,7 +39,7 @@ fn serve_all(s: State, journal: &[u8], answers: &mut [u8], n: usize) -> State
     let mut state = s;
     let mut i: usize = 0;
     while i < n {
-        state = turn(state, journal, answers, i * 24);
+        state = turn(state, journal, answers, i * RECORD_BYTES);
         i += 1;
     }
     state
@@ -51,9 +50,9 @@ pub fn run(s: State, journal: &[u8], answers: &mut [u8]) -> Run
     ensures { λ r. ⌜ r ≡ runOf s (now (journal .entry)) (now (answers .entry)) ⌝ }
     ensures { λ _. ⌜ now (answers .exit) ≡ bufferAfter s (now (journal .entry)) (now (answers .entry)) ⌝ }
 {
-    let records = journal.len() / 24;
+    let records = journal.len() / RECORD_BYTES;
     let short = answers.len() < journal.len();
-    let bad = (journal.len() % 24 != 0) | (LIMIT < records);
+    let bad = (journal.len() % RECORD_BYTES != 0) | (RECORD_LIMIT < records);
     if bad {
         return Run {
             number: BAD_JOURNAL,

@@ -8,10 +8,12 @@ use image::write_state;
 use libc::STDIN_FILENO;
 use libc::STDOUT_FILENO;
 use rules::Lines;
+use rules::RECORD_BYTES;
+use rules::RECORD_LIMIT;
 use rules::State;
 
 // An image and twice the longest journal, so that it is the run that refuses a longer one, and not the end of a buffer.
-const ROOM: usize = 128 + 2 * 1024 * 24;
+const ROOM: usize = 128 + 2 * RECORD_LIMIT * RECORD_BYTES;
 
 fn flag(on: bool, weight: u8) -> u8 {
     if on { weight } else { 0 }

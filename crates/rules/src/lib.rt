@@ -18,6 +18,8 @@ pub use facts::Facts;
 pub use name::Lookup;
 pub use name::Name;
 pub use name::Part;
+pub use record::RECORD_BYTES;
+pub use record::RECORD_LIMIT;
 pub use record::Record;
 pub use record::Run;
 pub use state::Controls;

@@ -2,6 +2,12 @@
 use crate::access::Access;
 use crate::state::State;
 
+// A record has as many bytes as its answer.
+pub const RECORD_BYTES: usize = 24;
+
+// The most records that a journal may have.
+pub const RECORD_LIMIT: usize = 1024;
+
 pub struct Record {
     pub access: Access,
     pub reserved: u32,
