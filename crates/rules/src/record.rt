@@ -1,4 +1,4 @@
-// The access journal (document 01): one record of it, and what a run over it comes to.
+// The access journal (RULES): one record of it, and what a run over it comes to.
 use crate::state::State;
 
 pub struct Record {
