@@ -1,5 +1,5 @@
 //! The wrapper calls the archive: readings from the bench, a run and its two refusals, levels
-//! that no journal can hold, and the lines. What is expected is the paper's.
+//! that no journal can hold, and the lines. What is expected stands in docs/RULES.md.
 
 use elsterkabel::{
     number, Answer, Controls, Features, Lines, State, Timer, Timers, RECORD_BYTES, RECORD_LIMIT,

@@ -1,5 +1,5 @@
-// Runs a journal from standard input, from the start state of document 01's readings, and writes the answers to standard
-// output; a journal that is refused gets none.
+// Runs a journal from standard input, from the start of the readings (RULES, 'Twelve readings from the bench'), and writes
+// the answers to standard output; a journal that is refused gets none.
 mod start_state;
 
 use libc::STDIN_FILENO;

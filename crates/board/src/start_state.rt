@@ -1,4 +1,4 @@
-// The start of document 01's readings.
+// The start of the readings (RULES, 'Twelve readings from the bench').
 ghost use mathlib.Core.Path.{_≡_};
 ghost use Rattle.rules.specs.Readings as readings;
 use rules::Controls;

@@ -82,7 +82,7 @@ copied-alike s t journal other (suc n) g e h =
       states = first .states;
     }
 
--- readings 1 and 2, as document 01 has them in bytes: a record is a word and what follows it
+-- readings 1 and 2, as RULES has them in bytes: a record is a word and what follows it
 abbrev at-el1-count-1000 : List ℕ
 at-el1-count-1000 =
     0x40 ∷ 0 ∷ 0 ∷ 0 ∷ 0 ∷ 0 ∷ 0 ∷ 0 ∷ 0 ∷ 0 ∷ 0 ∷ 0 ∷ 0 ∷ 0 ∷ 0 ∷ 0 ∷ 0 ∷ 0 ∷ 0x03 ∷ 0xE8 ∷ []

@@ -1,4 +1,4 @@
--- '5 holds exactly when', in plain words: each ground as a case, and nothing else.
+-- RULES, 'When 5 holds', in plain words: each ground as a case, and nothing else.
 use Prim.Native.Nat.{ℕ, _<_}
 use mathlib.Core.Bool.{true, false}
 use mathlib.Core.Logic.{_⊎_}

@@ -60,7 +60,7 @@ pub record RunShutOutByDemand2 (server : Server) : Type 0 where
   pub admitted : JournalDemand3 server
   pub shutOut : AnswersByTheRules server → ⊥
 
--- the four of document 01
+-- the four of RULES, 'How tightly it is nailed'
 pub record ImpostorsClaim : Type 0 where
   pub undefinedToAll : ShutOutByDemand2 undefinedToAll
   pub sixHundredToAll : ShutOutByDemand2 sixHundredToAll

@@ -1,4 +1,4 @@
--- There is such a lease: that of examples/lease.txt, 500 ticks taken at virtual count 600 of the paper's start. Of what is
+-- There is such a lease: that of examples/lease.txt, 500 ticks taken at virtual count 600 of the readings' start. Of what is
 -- asked on the way there, some reads, a trap and a write to a timer of EL2.
 use mathlib.Core.Bool.{true, false}
 use mathlib.Core.List.{List, [], _∷_}

@@ -1,5 +1,5 @@
 -- 'What the desk answers', in plain numbers: what goes with each number of an access, of a record and of a run. The numbers
--- and the limit are written as the paper has them and not by the rulebook's words, so that another one would show.
+-- and the limit are written as RULES has them and not by the rulebook's words, so that another one would show.
 use Prim.Native.Nat.{ℕ, _*_, _%_, _<_, _≤_}
 use mathlib.Core.Bool.{false}
 use mathlib.Core.List.{List}

@@ -1,4 +1,4 @@
--- Demand 3 is of machines that there are: the paper's start, and one that differs from it wherever it may.
+-- Demand 3 is of machines that there are: the readings' start, and one that differs from it wherever it may.
 use Prim.Native.Nat.{ℕ}
 use mathlib.Core.Bool.{true, false}
 use mathlib.Core.List.{List, [], _∷_}

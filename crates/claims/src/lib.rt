@@ -1,5 +1,5 @@
-// What the rulebook comes to: the customer's demands, and the lease that they are for, as theorems over the definitions that
-// the code is proved to equal. specs/ states them, proofs/ proves them.
+// What the rulebook comes to: the customer's demands (RULES, 'The three demands'), and the lease that they are for, as
+// theorems over the definitions that the code is proved to equal. specs/ states them, proofs/ proves them.
 ghost use Rattle.rules.specs.Readings.{ReadingsHold};
 ghost use Rattle.claims.specs.Refusals.{RefusalsMoveNothing, RecordRefusalsMoveNothing, RunRefusalsMoveNothing, ReadsMoveNothing};
 ghost use Rattle.claims.specs.Numbers.{EachAnswer, EachRecord, EachRun};

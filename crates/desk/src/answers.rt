@@ -1,4 +1,4 @@
-// The answers by their numbers, 0 to 3 made from the word (document 01, 'What the desk answers').
+// The answers by their numbers, 0 to 3 made from the word (RULES, 'What the desk answers').
 ghost use mathlib.Core.Path.{_≡_};
 ghost use Rattle.rules.specs.Answers.{doneRead, doneWrite, undefinedAt, asBefore};
 ghost use Rattle.rules.specs.Answers as rule;

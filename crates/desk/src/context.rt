@@ -1,4 +1,4 @@
-// The contexts that cannot be (document 01, 'What the desk answers', 5).
+// The contexts that cannot be (RULES, 'When 5 holds').
 ghost use mathlib.Core.Path.{_≡_};
 ghost use Rattle.rules.specs.Context.{impossibleAt};
 ghost use Rattle.rules.specs.Context as rule;

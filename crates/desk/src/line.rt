@@ -1,4 +1,4 @@
-// Which timer lines are raised (document 01, 'Timer met').
+// Which timer lines are raised (RULES, 'Timer met').
 ghost use mathlib.Core.Path.{_≡_};
 ghost use Rattle.rules.specs.Counts.{conditionCount};
 ghost use Rattle.rules.specs.Lines.{linesOf};

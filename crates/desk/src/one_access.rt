@@ -1,4 +1,4 @@
-// One access, from word to answer and next state (document 01, 'What the desk answers').
+// One access, from word to answer and next state (RULES, 'What the desk answers').
 ghost use mathlib.Core.Path.{_≡_};
 ghost use Rattle.rules.specs.Names.{writtenOperand};
 ghost use Rattle.rules.specs.Access.{served, accessOf};

@@ -1,4 +1,4 @@
-// The gates of CNTPCT, CNTVCT and their SS forms (document 01, 'Who may touch what').
+// The gates of CNTPCT, CNTVCT and their SS forms (RULES, 'Who may touch what').
 ghost use mathlib.Core.Path.{_≡_};
 ghost use Rattle.rules.specs.Counters.{cntvctEl1, selfSynchronized, readOnly};
 ghost use Rattle.rules.specs.Counters as gate;

@@ -1,4 +1,4 @@
-// The gates of CNTVOFF, CNTHP and CNTHVS (document 01, 'Who may touch what').
+// The gates of CNTVOFF, CNTHP and CNTHVS (RULES, 'Who may touch what').
 ghost use mathlib.Core.Path.{_≡_};
 ghost use Rattle.rules.specs.El2 as gate;
 use rules::Facts;

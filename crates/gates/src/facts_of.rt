@@ -1,4 +1,4 @@
-// The words and bits of document 01, read off a state at a level.
+// The words and bits of RULES, 'The machine we model', read off a state at a level.
 ghost use mathlib.Core.Path.{_≡_};
 ghost use Rattle.rules.specs.Bits.{bit, cntkctlOf};
 ghost use Rattle.rules.specs.Words.{on, offsetOn, factsOf};

@@ -1,4 +1,4 @@
-// One record read and served, and one answer packed (document 01, 'The access journal').
+// One record read and served, and one answer packed (RULES, 'The access journal').
 ghost use mathlib.Core.Path.{_≡_};
 ghost use Prim.Native.Nat.{_+_, _≤_};
 ghost use mathlib.Core.List.{[], _∷_};

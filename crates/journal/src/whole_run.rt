@@ -1,4 +1,4 @@
-// The run of a journal over one state, with a lent answer buffer (document 01, 'The access journal').
+// The run of a journal over one state, with a lent answer buffer (RULES, 'The access journal').
 ghost use mathlib.Core.Path.{_≡_};
 ghost use mathlib.Core.List.{_++_};
 ghost use Prim.Native.Nat.{_+_, _*_, _≤_, _<_};

@@ -1,4 +1,4 @@
-// The image of a state: 128 bytes, fields packed in document 01's order, most significant bit first, zeros, and 0xA5 last.
+// The image of a state: 128 bytes, fields in the order of RULES, 'The state', most significant bit first, zeros, 0xA5 last.
 use rules::Controls;
 use rules::Features;
 use rules::State;

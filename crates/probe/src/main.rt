@@ -19,7 +19,7 @@ fn flag(on: bool, weight: u8) -> u8 {
     if on { weight } else { 0 }
 }
 
-// The lines question as two bytes: its number, and the lines from bit 0 in document 01's order.
+// The lines question as two bytes: its number, and the lines from bit 0 in the order of RULES, 'The state'.
 fn lines_bytes(lines: Lines) -> [u8; 2] {
     let low = flag(lines.cntp, 1) | flag(lines.cntv, 2) | flag(lines.cnthp, 4);
     let high = flag(lines.cnthv, 8) | flag(lines.cnthps, 16) | flag(lines.cnthvs, 32);

@@ -1,4 +1,4 @@
-// Each register by one name with its five encoding numbers (document 01, 'Instruction words and register names').
+// Each register by one name with its five encoding numbers (RULES, 'Instruction words and register names').
 use rules::Name;
 use rules::Part;
 
@@ -166,7 +166,7 @@ impl Register {
         op2: 2,
     };
 
-    // In the order of the paper's table.
+    // In the order of the name table.
     pub const ALL: [Register; 17] = [
         Register::CNTPCT_EL0,
         Register::CNTVCT_EL0,

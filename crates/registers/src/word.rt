@@ -1,4 +1,4 @@
-// What the bits of an instruction word say (document 01, 'Instruction words and register names').
+// What the bits of an instruction word say (RULES, 'Instruction words and register names').
 ghost use mathlib.Core.Path.{_≡_};
 ghost use Rattle.rules.specs.Names.{isMrsOrMsr, isMrs, rtOf};
 

@@ -1,4 +1,5 @@
--- The rulebook: document 01 in its own order and words, a file for each part of the paper.
+-- The rulebook: the rules of docs/RULES.md, in the order and words of the customer's document 01, a file for each part. Names
+-- in quotes, as 'Who may touch what', are headings of that page, where each definition stands beside its rule.
 pub mod Bits
 pub mod Words
 pub mod Names

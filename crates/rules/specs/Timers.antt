@@ -7,7 +7,7 @@ use Rattle.rules.specs.declared.state.Timer.{Timer}
 use Rattle.rules.specs.declared.state.TimerName.{TimerName}
 use Rattle.rules.specs.declared.state.TimerName.the-variants.{Cntp, Cntv, Cnthp, Cnthv, Cnthps, Cnthvs}
 
--- a timer's place in the paper's order, by which two names are told apart
+-- a timer's place in the order of RULES, 'The state', by which two names are told apart
 abbrev pub placeOf : TimerName → ℕ
 placeOf Cntp = 0
 placeOf Cntv = 1

@@ -1,5 +1,5 @@
 -- 'Words used below': EL2 on, host, secure, offset on, physical trapped; and the facts of a state at a level, which
--- collect for the rules what they ask. The paper's 'controls' are the struct `Controls`.
+-- collect for the rules what they ask. The word 'controls' is the struct `Controls`.
 use Prim.Native.Nat.{ℕ}
 use mathlib.Core.Bool.{Bool, not, cond, _&&_, _||_}
 use lib.Dec.{eqb}

@@ -1,4 +1,4 @@
-// What the desk answers (document 01, 'What the desk answers').
+// The answers (RULES, 'What the desk answers').
 use crate::state::State;
 
 // What a register reads as: its bits, those that are unknown given as 0, and the mask that names the unknown ones.

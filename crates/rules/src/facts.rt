@@ -1,4 +1,4 @@
-// What the rules of 'Who may touch what' ask of a state at a level: the words and bits of document 01, each by its name.
+// What the rules ask of a state at a level (RULES, 'Who may touch what'): its words and bits, each by its name.
 
 // The bits of CNTKCTL_EL1.
 pub struct Cntkctl {

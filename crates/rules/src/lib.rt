@@ -1,4 +1,4 @@
-// The types of the answer desk, by value. What they mean, the rulebook of document 01, stands in specs/.
+// The types of the answer desk, by value. What they mean, the rulebook of docs/RULES.md, stands in specs/.
 mod access;
 mod answer;
 mod facts;

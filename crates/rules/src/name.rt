@@ -1,4 +1,4 @@
-// The names by which registers are known (document 01, 'Instruction words and register names').
+// The names by which registers are known (RULES, 'Instruction words and register names').
 
 // The three registers of a timer.
 pub enum Part {

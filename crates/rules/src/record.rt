@@ -1,4 +1,4 @@
-// The access journal (document 01): one record of it, and what a run over it comes to.
+// RULES, 'The access journal': one record of it, and what a run over it comes to.
 use crate::access::Access;
 use crate::state::State;
 

@@ -1,4 +1,4 @@
-// Sums and differences wrap at 64 bits (document 01, 'Values').
+// Sums and differences wrap at 64 bits (RULES, 'Values').
 ghost use mathlib.Core.Path.{_≡_};
 ghost use Rattle.rules.specs.Arithmetic.{_plus_, _less_};
 ghost use Rattle.rules.specs.Arithmetic as rule;

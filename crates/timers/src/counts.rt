@@ -1,4 +1,4 @@
-// The counts that an access and the timers' conditions go by (document 01, 'Count used' and 'Timer met').
+// The counts that an access and the timers' conditions go by (RULES, 'Count used' and 'Timer met').
 ghost use mathlib.Core.Path.{_≡_};
 ghost use Rattle.rules.specs.Counts.{virtual, offsetPhysical, offsetSeen, physicalSeen, virtualSeen, countOf};
 use crate::arithmetic::sub;

@@ -1,4 +1,4 @@
-// One timer read and written (document 01, 'Values' and 'Timer met').
+// One timer read and written (RULES, 'Values' and 'Timer met').
 ghost use mathlib.Core.Path.{_≡_};
 ghost use mathlib.Core.Bool.{cond};
 ghost use Prim.Native.Nat.{_≤_};

@@ -1,4 +1,4 @@
--- `impossible` meets its contract: the code's grounds are the paper's, over the bits of CNTHCTL by their names.
+-- `impossible` meets its contract: the code's grounds are the rulebook's, over the bits of CNTHCTL by their names.
 -- Assumes nothing.
 use borrow.Author.Needs.{needs}
 use Rattle.rules.specs.Context.{impossible}

@@ -1,4 +1,4 @@
--- `impossible_at` meets its contract: the code's grounds are the paper's.
+-- `impossible_at` meets its contract: the code's grounds are the rulebook's.
 -- Assumes nothing.
 use borrow.Author.Needs.{needs}
 use Rattle.rules.specs.Context.{impossibleAt}
