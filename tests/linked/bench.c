@@ -29,7 +29,7 @@ static void put_big_endian(uint8_t *bytes, uint64_t x) {
         bytes[i] = (uint8_t)(x >> (56 - 8 * i));
 }
 
-/* A record with a reserved bit set is no access, so there is nothing to call; the paper's number for it is 6. */
+/* A record with a reserved bit set is no access, so there is nothing to call; the number for it is 6 (RULES, 'The numbers'). */
 static struct elsterkabel_answer serve(struct elsterkabel_state *state, const uint8_t *record) {
     uint64_t head = big_endian(record, 8);
     if (head << 34 != 0)

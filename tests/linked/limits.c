@@ -1,6 +1,7 @@
 /*
  * What a journal on standard input cannot ask: levels above 3, an answer buffer that is too short or too long, and that
- * refusals leave the lent state and every lent byte as they were. The expected values are document 01's.
+ * refusals leave the lent state and every lent byte as they were. The expected values are those of
+ * docs/RULES.md.
  */
 #include "image.h"
 
@@ -18,7 +19,7 @@ static void check(const char *what, bool holds) {
     failed |= !holds;
 }
 
-/* The state that document 01's readings begin with. */
+/* The state that the readings begin with (RULES, 'Twelve readings from the bench'). */
 static struct elsterkabel_state start(void) {
     struct elsterkabel_state state;
     memset(&state, 0, sizeof state);
