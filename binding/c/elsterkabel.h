@@ -5,6 +5,9 @@
  * the physical count, and acts on the number that it gets. Whatever the word, level, operand, count, state and journal
  * are, there is an answer; nothing has to be checked first. What each call gives is proved (docs/PROMISES.md).
  *
+ * Every parameter is a pointer or a number, and every result a number or none: each calling convention passes these in
+ * one way.
+ *
  * What the language cannot see and C must keep to: a pointer is not null and is aligned, also where a length is 0; the
  * memory behind it is readable, and writable where it is not const, for the whole length; no two pointers of a call
  * overlap; no other thread touches that memory during the call; and a bool is 0 or 1.
@@ -39,9 +42,9 @@ enum elsterkabel_number {
 #define ELSTERKABEL_RECORD_BYTES 24
 #define ELSTERKABEL_RECORD_LIMIT 1024
 
-/* A bool below that holds anything but 0 or 1 is the host's mistake, and then nothing is promised: fill a state field by
-   field, or from zeros, and never from bytes of another origin. In Rust it cannot happen: the binding's types hold Rust's own
-   bool, which safe code can make 0 or 1 alone, and the library stores and returns no other. */
+/* A bool below that holds anything but 0 or 1 is the host's mistake, and then nothing is promised: fill a state field
+   by field, or from zeros, and never from bytes of another origin. In Rust it cannot happen: the binding's types hold
+   Rust's own bool, which safe code can make 0 or 1 alone, and the library stores and returns no other. */
 struct elsterkabel_features {
     bool vhe;
     bool sel2;
@@ -82,6 +85,14 @@ struct elsterkabel_state {
     struct elsterkabel_timers timers;
 };
 
+/* One access: an MRS or MSR word at a level. The operand is what register Rt holds, and counts for a write alone. */
+struct elsterkabel_access {
+    uint32_t word;
+    uint8_t level;
+    uint64_t operand;
+    uint64_t count; /* the physical count */
+};
+
 struct elsterkabel_answer {
     uint8_t number;
     uint8_t rt; /* the word's Rt where the number is 0 to 3, else 0 */
@@ -99,17 +110,17 @@ struct elsterkabel_lines {
     bool cnthvs;
 };
 
-/* One access: an MRS or MSR word at a level. The operand is what register Rt holds, and counts for a write alone. */
-struct elsterkabel_answer elsterkabel_access_in(struct elsterkabel_state *state, uint32_t word, uint8_t level,
-                                                uint64_t operand, uint64_t count);
+/* One access, on the state. The answer is written whole, whatever it held. */
+void elsterkabel_access_in(struct elsterkabel_state *state, const struct elsterkabel_access *access,
+                           struct elsterkabel_answer *answer);
 
 /* A journal of accesses, run in order on the state; answer i is written to the 24 bytes of the buffer from 24 times i
    on, and no other byte of it is touched. Gives 0, 7 or 8; on 7 and 8 nothing is written. */
 uint8_t elsterkabel_run_in(struct elsterkabel_state *state, const uint8_t *journal, size_t journal_length,
                            uint8_t *answers, size_t answers_length);
 
-/* Which timer lines are raised at a physical count. */
-struct elsterkabel_lines elsterkabel_lines(struct elsterkabel_state state, uint64_t count);
+/* Which timer lines are raised at a physical count. The lines are written whole. */
+void elsterkabel_lines(const struct elsterkabel_state *state, uint64_t count, struct elsterkabel_lines *lines);
 
 #ifdef __cplusplus
 }

@@ -41,7 +41,9 @@ static enum todo handle(struct guest *guest, uint32_t iss, uint8_t level, uint64
     uint32_t rt = iss >> 5 & 31;
     bool mrs = iss & 1;
     uint64_t operand = rt == XZR ? 0 : guest->x[rt];
-    struct elsterkabel_answer answer = elsterkabel_access_in(&guest->timers, word_of(iss), level, operand, count);
+    struct elsterkabel_access access = {word_of(iss), level, operand, count};
+    struct elsterkabel_answer answer;
+    elsterkabel_access_in(&guest->timers, &access, &answer);
 
     switch (answer.number) {
     case ELSTERKABEL_DONE:
@@ -68,7 +70,9 @@ static uint32_t iss_of(bool mrs, uint32_t op1, uint32_t crm, uint32_t op2, uint3
 }
 
 static const char *line_at(const struct guest *guest, uint64_t count) {
-    return elsterkabel_lines(guest->timers, count).cntv ? "up" : "down";
+    struct elsterkabel_lines lines;
+    elsterkabel_lines(&guest->timers, count, &lines);
+    return lines.cntv ? "up" : "down";
 }
 
 int main(void) {

@@ -29,13 +29,20 @@ static void put_big_endian(uint8_t *bytes, uint64_t x) {
         bytes[i] = (uint8_t)(x >> (56 - 8 * i));
 }
 
-/* A record with a reserved bit set is no access, so there is nothing to call; the number for it is 6 (RULES, 'The numbers'). */
+/* A record with a reserved bit set is no access, so there is nothing to call; it gets 6 (RULES, 'The numbers'). */
 static struct elsterkabel_answer serve(struct elsterkabel_state *state, const uint8_t *record) {
     uint64_t head = big_endian(record, 8);
     if (head << 34 != 0)
         return (struct elsterkabel_answer){.number = ELSTERKABEL_RESERVED_BIT_SET};
-    return elsterkabel_access_in(state, (uint32_t)(head >> 32), (uint8_t)(head >> 30 & 3), big_endian(record + 8, 8),
-                                 big_endian(record + 16, 8));
+    struct elsterkabel_access access = {
+        .word = (uint32_t)(head >> 32),
+        .level = head >> 30 & 3,
+        .operand = big_endian(record + 8, 8),
+        .count = big_endian(record + 16, 8),
+    };
+    struct elsterkabel_answer answer;
+    elsterkabel_access_in(state, &access, &answer);
+    return answer;
 }
 
 static void pack(uint8_t *bytes, struct elsterkabel_answer answer) {
@@ -57,7 +64,8 @@ static uint8_t lines_byte(struct elsterkabel_lines lines) {
 static bool put(const void *bytes, size_t length) { return fwrite(bytes, 1, length, stdout) == length; }
 
 static bool put_end(struct elsterkabel_state *state, uint64_t count) {
-    struct elsterkabel_lines lines = elsterkabel_lines(*state, count);
+    struct elsterkabel_lines lines;
+    elsterkabel_lines(state, count, &lines);
     uint8_t end[IMAGE_BYTES + 2];
     write_image(end, state);
     end[IMAGE_BYTES] = lines.number;

@@ -12,6 +12,7 @@
 #define TIMER(field) FIELD(Timer, elsterkabel_timer, field)
 #define TIMERS(field) FIELD(Timers, elsterkabel_timers, field)
 #define STATE(field) FIELD(State, elsterkabel_state, field)
+#define ACCESS(field) FIELD(Access, elsterkabel_access, field)
 #define ANSWER(field) FIELD(Answer, elsterkabel_answer, field)
 #define LINES(field) FIELD(Lines, elsterkabel_lines, field)
 
@@ -26,6 +27,8 @@ int main(void) {
     TIMERS(cntp), TIMERS(cntv), TIMERS(cnthp), TIMERS(cnthv), TIMERS(cnthps), TIMERS(cnthvs);
     TYPE(State, elsterkabel_state);
     STATE(features), STATE(controls), STATE(cntvoff), STATE(cntpoff), STATE(timers);
+    TYPE(Access, elsterkabel_access);
+    ACCESS(word), ACCESS(level), ACCESS(operand), ACCESS(count);
     TYPE(Answer, elsterkabel_answer);
     ANSWER(number), ANSWER(rt), ANSWER(value), ANSWER(mask);
     TYPE(Lines, elsterkabel_lines);

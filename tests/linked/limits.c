@@ -1,7 +1,6 @@
 /*
  * What a journal on standard input cannot ask: levels above 3, an answer buffer that is too short or too long, and that
- * refusals leave the lent state and every lent byte as they were. The expected values are those of
- * docs/RULES.md.
+ * refusals leave the lent state and every lent byte as they were. The expected values are those of docs/RULES.md.
  */
 #include "image.h"
 
@@ -38,7 +37,13 @@ static bool same_state(struct elsterkabel_state a, struct elsterkabel_state b) {
     return memcmp(of_a, of_b, IMAGE_BYTES) == 0;
 }
 
-static bool is_answer(struct elsterkabel_answer answer, uint8_t number, uint8_t rt, uint64_t value) {
+/* The answer's number, Rt and value to an access at count 1000; its mask is 0. */
+static bool answers_with(struct elsterkabel_state *state, uint32_t word, uint8_t level, uint64_t operand,
+                         uint8_t number, uint8_t rt, uint64_t value) {
+    struct elsterkabel_access access = {word, level, operand, 1000};
+    struct elsterkabel_answer answer;
+    memset(&answer, UNTOUCHED, sizeof answer);
+    elsterkabel_access_in(state, &access, &answer);
     return answer.number == number && answer.rt == rt && answer.value == value && answer.mask == 0;
 }
 
@@ -71,17 +76,16 @@ static bool moves_nothing(uint8_t number, size_t journal_length, size_t answers_
 
 static void levels(void) {
     struct elsterkabel_state state = start();
-    check("EL1 reads 600 with Rt 0", is_answer(elsterkabel_access_in(&state, MRS_CNTVCT, 1, 0, 1000), 0, 0, 600));
-    check("level 4 gets 5", is_answer(elsterkabel_access_in(&state, MSR_CNTV_TVAL_X1, 4, 77, 1000), 5, 0, 0));
-    check("level 255 gets 5", is_answer(elsterkabel_access_in(&state, MSR_CNTV_TVAL_X1, 255, 77, 1000), 5, 0, 0));
+    check("EL1 reads 600 with Rt 0", answers_with(&state, MRS_CNTVCT, 1, 0, 0, 0, 600));
+    check("level 4 gets 5", answers_with(&state, MSR_CNTV_TVAL_X1, 4, 77, 5, 0, 0));
+    check("level 255 gets 5", answers_with(&state, MSR_CNTV_TVAL_X1, 255, 77, 5, 0, 0));
     check("and the state stays", same_state(state, start()));
 }
 
 static void a_write(void) {
     struct elsterkabel_state state = start(), moved = start();
     moved.timers.cntv.cval = 599;
-    check("a write gives 0 and Rt 1",
-          is_answer(elsterkabel_access_in(&state, MSR_CNTV_TVAL_X1, 1, 0xFFFFFFFF, 1000), 0, 1, 0));
+    check("a write gives 0 and Rt 1", answers_with(&state, MSR_CNTV_TVAL_X1, 1, 0xFFFFFFFF, 0, 1, 0));
     check("and moves CNTV's CVAL alone", same_state(state, moved));
 }
 
