@@ -1,5 +1,6 @@
-// The library that a hypervisor links: the desk and the run over a timer state that the trap handler lends and finds changed
-// in place, and the lines question. Their names are those that C sees, so they begin with the library's.
+// The library that a hypervisor links: the desk, the run and the lines question over memory that the trap handler lends and finds
+// changed in place. Each parameter is a pointer or a number (a slice is one of each), and each result a number or nothing, so one
+// compiled module is right under every calling convention. Their names are those that C sees, so they begin with the library's.
 ghost use mathlib.Core.Path.{_≡_};
 ghost use Rattle.rules.specs.Access.{accessOf};
 ghost use Rattle.rules.specs.Journal.{runOf, bufferAfter};
@@ -9,15 +10,18 @@ use rules::Answer;
 use rules::Lines;
 use rules::State;
 
-// One access: the same answer as by value, and the state as the by-value access leaves it.
+// Which interface this is: a host holds it against the one that it was written for.
+const VERSION: u32 = 1;
+
+// One access: the state and the answer as the by-value access gives them.
 #[no_mangle]
-pub extern "C" fn elsterkabel_access_in(s: &mut State, access: Access) -> Answer
-    ensures { λ r. ⌜ r ≡ accessOf (now (s .entry)) access .answer ⌝ }
-    ensures { λ _. ⌜ now (s .exit) ≡ accessOf (now (s .entry)) access .next ⌝ }
+pub extern "C" fn elsterkabel_access_in(s: &mut State, access: &Access, answer: &mut Answer)
+    ensures { λ _. ⌜ now (s .exit) ≡ accessOf (now (s .entry)) (now (access .entry)) .next ⌝ }
+    ensures { λ _. ⌜ now (answer .exit) ≡ accessOf (now (s .entry)) (now (access .entry)) .answer ⌝ }
 {
-    let outcome = desk::access(*s, access);
+    let outcome = desk::access(*s, *access);
     *s = outcome.next;
-    outcome.answer
+    *answer = outcome.answer;
 }
 
 // The run of a journal, likewise.
@@ -32,10 +36,17 @@ pub extern "C" fn elsterkabel_run_in(s: &mut State, journal: &[u8], answers: &mu
     ran.number
 }
 
-// Which lines are raised. It changes nothing, so the state comes by value.
+// Which lines are raised. It changes nothing of the state, so the state is lent to be read.
 #[no_mangle]
-pub extern "C" fn elsterkabel_lines(s: State, count: u64) -> Lines
-    ensures { λ r. ⌜ r ≡ linesOf s count ⌝ }
+pub extern "C" fn elsterkabel_lines(s: &State, count: u64, lines: &mut Lines)
+    ensures { λ _. ⌜ now (lines .exit) ≡ linesOf (now (s .entry)) count ⌝ }
 {
-    desk::lines(s, count)
+    *lines = desk::lines(*s, count);
+}
+
+#[no_mangle]
+pub extern "C" fn elsterkabel_version() -> u32
+    ensures { λ r. ⌜ r ≡ 1 ⌝ }
+{
+    VERSION
 }

@@ -14,7 +14,7 @@ use Rattle.desk.proofs.refused as desk-refused
 use Rattle.desk.proofs.as_before as desk-as-before
 use Rattle.journal.proofs.run as journal-run
 use Rattle.journal.proofs.last_count as journal-last-count
-use Rattle.lent.proofs.elsterkabel_lines as lent-elsterkabel-lines
+use Rattle.lent.proofs.elsterkabel_version as lent-elsterkabel-version
 use Rattle.registers.proofs.register.Register.named_by as registers-named-by
 use Rattle.registers.proofs.is_mrs as registers-is-mrs
 use Rattle.registers.proofs.rt as registers-rt
@@ -56,7 +56,7 @@ pub record EachPromise : Type 0 where
   pub run : OneResult 2 journal-run.Kinds.ps journal-run.Kinds.r journal-run.Reads.Learnt
   pub runBuffer : OneLeft 2 journal-run.Kinds.ps journal-run.Kinds.r journal-run.Reads.Learnt (λ κs e. now (e .1 .1 .0))
   pub lastCount : OneResult 1 journal-last-count.Kinds.ps journal-last-count.Kinds.r journal-last-count.Reads.Learnt
-  pub elsterkabelLines : OneResult 0 lent-elsterkabel-lines.Kinds.ps lent-elsterkabel-lines.Kinds.r lent-elsterkabel-lines.Reads.Learnt
+  pub elsterkabelVersion : OneResult 0 lent-elsterkabel-version.Kinds.ps lent-elsterkabel-version.Kinds.r lent-elsterkabel-version.Reads.Learnt
   pub namedBy : OneResult 0 registers-named-by.Kinds.ps registers-named-by.Kinds.r registers-named-by.Reads.Learnt
   pub isMrs : OneResult 0 registers-is-mrs.Kinds.ps registers-is-mrs.Kinds.r registers-is-mrs.Reads.Learnt
   pub rt : OneResult 0 registers-rt.Kinds.ps registers-rt.Kinds.r registers-rt.Reads.Learnt
