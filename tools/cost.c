@@ -13,21 +13,12 @@ struct access {
     uint8_t level;
 };
 
-#ifdef RESULT_BY_POINTER
-/* Compiled for Arm, the kit's module still returns a struct as x86-64 does: through a pointer before the parameters. */
-void *access_by_pointer(struct elsterkabel_answer *answer, struct elsterkabel_state *state, uint32_t word,
-                        uint8_t level, uint64_t operand, uint64_t count) __asm__("elsterkabel_access_in");
-
 static struct elsterkabel_answer ask(struct elsterkabel_state *state, struct access access, uint64_t count) {
+    struct elsterkabel_access asked = {access.word, access.level, 50, count};
     struct elsterkabel_answer answer;
-    access_by_pointer(&answer, state, access.word, access.level, 50, count);
+    elsterkabel_access_in(state, &asked, &answer);
     return answer;
 }
-#else
-static struct elsterkabel_answer ask(struct elsterkabel_state *state, struct access access, uint64_t count) {
-    return elsterkabel_access_in(state, access.word, access.level, 50, count);
-}
-#endif
 
 static const struct access ACCESSES[] = {
     {"MRS CNTVCT_EL0 at EL1, done", 0xD53BE040, 1},           {"MRS CNTV_CTL_EL0 at EL1, done", 0xD53BE320, 1},

@@ -1,6 +1,14 @@
 # shellcheck shell=bash
-# The kit is pinned by its identity, in tools/KIT-ID. Another may prove less or speak otherwise, so it is told of; whether
-# all is proved stays for rt to say.
+# The Rattle kit: where it is, and which one. It is pinned by its identity, in tools/KIT-ID. Another may prove less or speak
+# otherwise, so it is told of; whether all is proved stays for rt to say.
+
+kit() {
+    dirname "$(dirname "$(rt doc)")"
+}
+
+kit_toolchain() {
+    echo "$(kit)/on/$(uname -m)/toolchain"
+}
 
 # warn_of_another_kit WHO: one line, where rt is not of the kit that is pinned
 warn_of_another_kit() {

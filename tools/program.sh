@@ -2,10 +2,6 @@
 # Programs for x86-64, which is what the kit compiles for: how they are linked with the library and run. On Arm the kit's own
 # compiler, linker and emulator do it.
 
-kit_toolchain() {
-    echo "$(dirname "$(dirname "$(rt doc)")")/on/$(uname -m)/toolchain"
-}
-
 no_way() {
     echo "no way to $1 on this machine: $(uname -m) is neither x86_64 nor aarch64" >&2
     return 1
