@@ -7,7 +7,7 @@ use reading::{Reading, State};
 use scribe::show;
 
 fn folder() -> PathBuf {
-    Path::new(env!("CARGO_MANIFEST_DIR")).join("../../examples")
+    Path::new(env!("CARGO_MANIFEST_DIR")).join("../examples")
 }
 
 fn file(name: &str) -> String {
