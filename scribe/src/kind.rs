@@ -12,7 +12,7 @@ pub fn is_text(journal: &[u8]) -> bool {
 #[cfg(test)]
 mod tests {
     use super::*;
-    use reading::{Access, Record};
+    use crate::record::Record;
 
     #[test]
     fn a_text_may_have_letters_of_any_language() {
@@ -31,15 +31,12 @@ mod tests {
     #[test]
     fn a_record_is_no_text_though_its_numbers_spell_one() {
         for level in 0..4 {
-            let access = Access {
+            let record = Record {
                 word: u32::from_be_bytes(*b"EL1 "),
                 level,
+                reserved: 0,
                 operand: u64::from_be_bytes(*b"MRS X0, "),
                 count: u64::from_be_bytes(*b"CNTVCT\n\n"),
-            };
-            let record = Record {
-                access,
-                reserved: 0,
             };
             assert!(!is_text(&record.pack()), "EL{level}");
         }

@@ -2,12 +2,11 @@
 
 use std::fmt;
 
-use reading::{Answer, ImageError, Record, State, IMAGE_BYTES, RECORD_BYTES};
-
-use crate::{words, Entry};
-
-/// Where the column of comments begins at the furthest: a longer line has its comment close behind.
-const WIDEST_COLUMN: usize = 72;
+use crate::answer::Answer;
+use crate::image::{ImageError, IMAGE_BYTES};
+use crate::record::{Record, RECORD_BYTES};
+use crate::state::State;
+use crate::words;
 
 /// Why bytes cannot be shown.
 #[derive(Clone, Debug, PartialEq, Eq)]
@@ -81,36 +80,12 @@ pub fn side_by_side(journal: &[u8], answers: &[u8]) -> Result<String, Unshowable
         |(record, answer)| {
             let record = Record::unpack(record);
             let answer = match answer {
-                Some(bytes) => words::answer(&Answer::unpack(bytes), record.access.word),
+                Some(bytes) => words::answer(&Answer::unpack(bytes), record.word),
                 None => "no answer".to_string(),
             };
             format!("{} -> {answer}", words::record(&record))
         },
     )))
-}
-
-/// The lines of a text's records, each with its comment; the comments in one column.
-pub fn with_comments(shown: &str, entries: &[Entry]) -> String {
-    let column = column_of_comments(shown, entries);
-    lines(
-        shown
-            .lines()
-            .zip(entries)
-            .map(|(line, entry)| match entry.comment {
-                Some(comment) => format!("{line:column$}   {comment}"),
-                None => line.to_string(),
-            }),
-    )
-}
-
-fn column_of_comments(shown: &str, entries: &[Entry]) -> usize {
-    let commented = shown.lines().zip(entries);
-    let commented = commented.filter(|(_, entry)| entry.comment.is_some());
-    let widths = commented.map(|(line, _)| line.chars().count());
-    widths
-        .filter(|&width| width <= WIDEST_COLUMN)
-        .max()
-        .unwrap_or_default()
 }
 
 /// A state image, one field a line.
@@ -138,6 +113,6 @@ fn records_of<'a>(
     }
 }
 
-fn lines(lines: impl Iterator<Item = String>) -> String {
+pub(crate) fn lines(lines: impl Iterator<Item = String>) -> String {
     lines.map(|line| line + "\n").collect()
 }

@@ -5,7 +5,7 @@ use std::io::Write;
 use std::path::PathBuf;
 use std::process::{Command, Output, Stdio};
 
-use reading::{Reading, Record, State};
+use scribe::{Answer, Record, State, RECORD_BYTES, RECORD_LIMIT};
 
 fn scribe(arguments: &[&str], input: &[u8]) -> Output {
     let mut child = Command::new(env!("CARGO_BIN_EXE_scribe"))
@@ -57,10 +57,27 @@ impl Drop for Scratch {
     }
 }
 
-fn answers_to(journal: &[u8]) -> Vec<u8> {
-    let mut answers = vec![0; journal.len()];
-    assert_eq!(Reading::new(State::bench()).run(journal, &mut answers), 0);
-    answers
+/// A read that is done.
+fn done_with(rt: u8, value: u64, mask: u64) -> Answer {
+    Answer {
+        rt,
+        value,
+        mask,
+        ..Answer::default()
+    }
+}
+
+/// What is not done, or a write.
+fn number(number: u8, rt: u8) -> Answer {
+    Answer {
+        number,
+        rt,
+        ..Answer::default()
+    }
+}
+
+fn packed(answers: &[Answer]) -> Vec<u8> {
+    answers.iter().flat_map(Answer::pack).collect()
 }
 
 #[test]
@@ -71,17 +88,17 @@ fn text_packed_and_shown_is_the_same_text() {
                 EL3 MRS XZR, CNTHVS_CTL_EL2 = 5 @ 0\n\
                 WORD 0xD53BE000 EL2 = 0 @ 1000 RESERVED 0x3FFFFFFF\n";
     let journal = done(scribe(&["pack"], text.as_bytes()));
-    assert_eq!(journal.len(), 5 * 24);
+    assert_eq!(journal.len(), 5 * RECORD_BYTES);
     let shown = done(scribe(&["show", "--journal", "-"], &journal));
     assert_eq!(String::from_utf8_lossy(&shown), text);
 }
 
 #[test]
 fn every_journal_comes_back_from_its_text() {
-    let mut bytes = [0u8; 24];
+    let mut bytes = [0; RECORD_BYTES];
     for round in 0..2000u64 {
         for (place, byte) in bytes.iter_mut().enumerate() {
-            let mixed = (round * 24 + place as u64).wrapping_mul(0x9E37_79B9_7F4A_7C15);
+            let mixed = (round * 32 + place as u64).wrapping_mul(0x9E37_79B9_7F4A_7C15);
             *byte = (mixed >> 56) as u8;
         }
         if round % 2 == 0 {
@@ -96,12 +113,15 @@ fn every_journal_comes_back_from_its_text() {
 
 #[test]
 fn a_journal_past_the_limit_is_packed_with_a_note() {
-    let text = "EL1 MRS X0, CNTVCT_EL0 @ 1\n".repeat(1025);
-    let output = scribe(&["pack"], text.as_bytes());
+    let line = "EL1 MRS X0, CNTVCT_EL0 @ 1\n";
+    let output = scribe(&["pack"], line.repeat(RECORD_LIMIT + 1).as_bytes());
     let said = String::from_utf8_lossy(&output.stderr).to_string();
-    assert!(said.contains("1025 records"), "{said}");
-    assert_eq!(done(output).len(), 1025 * 24);
-    let at_limit = scribe(&["pack"], &text.as_bytes()[..1024 * text.len() / 1025]);
+    assert_eq!(
+        said,
+        "scribe: note: 1025 records; a run refuses over 1024 with 7\n"
+    );
+    assert_eq!(done(output).len(), (RECORD_LIMIT + 1) * RECORD_BYTES);
+    let at_limit = scribe(&["pack"], line.repeat(RECORD_LIMIT).as_bytes());
     assert!(at_limit.stderr.is_empty());
 }
 
@@ -113,7 +133,14 @@ fn a_journal_and_its_answers_stand_side_by_side() {
                 EL1 MSR CNTVCT_EL0, X3 = 1 @ 1000\n\
                 WORD 0xD53BE000 EL1 = 0 @ 1000\n";
     let journal = done(scribe(&["pack"], text.as_bytes()));
-    let answers = Scratch::new("side-by-side.answers", &answers_to(&journal));
+    let answers = packed(&[
+        done_with(0, 600, 0),
+        number(3, 0),
+        done_with(3, 0, 4),
+        number(1, 3),
+        number(4, 0),
+    ]);
+    let answers = Scratch::new("side-by-side.answers", &answers);
     let shown = done(scribe(
         &["show", "--journal", "-", "--answers", answers.path()],
         &journal,
@@ -137,8 +164,14 @@ fn the_comments_of_a_text_stand_beside_its_answers() {
                 EL1 MRS X3, CNTV_CTL_EL0 @ 1000\n\
                 WORD 0xD53BE000 EL1 @ 1000 # a longer line does not move the column\n\
                 EL1 MSR CNTV_CTL_EL0, XZR @ 1000# over\n";
-    let journal = scribe::pack(text).expect("five records");
-    let answers = Scratch::new("comments.answers", &answers_to(&journal));
+    let answers = packed(&[
+        done_with(0, 600, 0),
+        number(3, 0),
+        done_with(3, 0, 4),
+        number(4, 0),
+        number(0, 31),
+    ]);
+    let answers = Scratch::new("comments.answers", &answers);
     let shown = done(scribe(
         &["show", "--text", "-", "--answers", answers.path()],
         text.as_bytes(),
@@ -189,7 +222,12 @@ fn a_refused_run_has_no_answers() {
 
 #[test]
 fn a_state_image_is_shown_field_by_field() {
-    let mut state = State::bench();
+    let mut state = State {
+        vhe: true,
+        cntkctl: 0x303,
+        cntvoff: 400,
+        ..State::default()
+    };
     state.timers[1].enable = true;
     state.timers[1].cval = 1500;
     let shown = done(scribe(&["show", "--state", "-"], &state.to_image()));
@@ -235,8 +273,8 @@ fn bad_bytes_are_refused_and_nothing_is_written() {
     assert!(said.contains("127 bytes, not 128"), "{said}");
     let said = failed(scribe(&["show", "--state", "-"], &[0; 128]), 1);
     assert!(said.contains("byte 127 is 0x00"), "{said}");
-    let answers = [0; 48];
-    let journal = Scratch::new("short.journal", &[0; 24]);
+    let answers = [0; 2 * RECORD_BYTES];
+    let journal = Scratch::new("short.journal", &[0; RECORD_BYTES]);
     let arguments = ["show", "--journal", journal.path(), "--answers", "-"];
     let said = failed(scribe(&arguments, &answers), 1);
     assert!(said.contains("2 answers to a journal of 1"), "{said}");

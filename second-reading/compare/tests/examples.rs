@@ -4,10 +4,10 @@ use std::fs;
 use std::path::{Path, PathBuf};
 
 use reading::{Reading, State};
-use scribe::show;
+use scribe::{show, with_comments};
 
 fn folder() -> PathBuf {
-    Path::new(env!("CARGO_MANIFEST_DIR")).join("../examples")
+    Path::new(env!("CARGO_MANIFEST_DIR")).join("../../examples")
 }
 
 fn file(name: &str) -> String {
@@ -79,7 +79,7 @@ fn the_readings_give_what_the_bench_gave() {
 fn the_lease_gives_the_answers_beside_it() {
     let text = file("lease.txt");
     let entries = scribe::entries(&text).expect("a text");
-    let shown = show::with_comments(&side_by_side(&text), &entries);
+    let shown = with_comments(&side_by_side(&text), &entries);
     let foretold = file("lease.answers");
     assert_eq!(
         shown.lines().collect::<Vec<_>>(),

@@ -2,9 +2,9 @@
 
 /// A word or a sign, with the column of its first character counted from 1.
 #[derive(Clone, Copy, Debug, PartialEq, Eq)]
-pub(crate) struct Token<'a> {
-    pub(crate) text: &'a str,
-    pub(crate) column: usize,
+pub(super) struct Token<'a> {
+    pub(super) text: &'a str,
+    pub(super) column: usize,
 }
 
 fn is_sign(character: char) -> bool {
@@ -12,7 +12,7 @@ fn is_sign(character: char) -> bool {
 }
 
 /// The tokens of a line up to its comment, and the column after the last of them.
-pub(crate) fn tokens(line: &str) -> (Vec<Token<'_>>, usize) {
+pub(super) fn tokens(line: &str) -> (Vec<Token<'_>>, usize) {
     let text = line.split('#').next().unwrap_or_default();
     let mut found: Vec<Token> = Vec::new();
     let mut start = None;
@@ -32,7 +32,7 @@ pub(crate) fn tokens(line: &str) -> (Vec<Token<'_>>, usize) {
 }
 
 /// The comment of a line, from its `#` on.
-pub(crate) fn comment(line: &str) -> Option<&str> {
+pub(super) fn comment(line: &str) -> Option<&str> {
     line.find('#').map(|place| line[place..].trim_end())
 }
 
@@ -84,6 +84,7 @@ mod tests {
         assert_eq!(tokens("EL1 MRS   # rest"), (tokens("EL1 MRS").0, 8));
         assert_eq!(tokens("# only a comment"), (vec![], 1));
     }
+
     #[test]
     fn a_comment_is_kept_as_it_is_written() {
         assert_eq!(comment("EL1 MRS #   a # b \t"), Some("#   a # b"));
