@@ -1,7 +1,8 @@
 //! One access: what the desk answers.
 
 use crate::clause::Clause;
-use crate::register::{Direction, Instruction, Register, Stranger};
+use crate::instruction::{Direction, Instruction, Stranger};
+use crate::register::{Part, Register};
 use crate::ruling::{Ruling, Way};
 use crate::slip::Slip;
 use crate::state::{Level, TimerName};
@@ -81,13 +82,13 @@ impl Reading {
         use Register::*;
         let level = call.level;
         let answer = match call.instruction.register {
-            Cntpct | Cntvct => self.counter(call),
-            Cntpctss | Cntvctss => self.self_synchronized_counter(call),
-            CntpTval | CntpCtl | CntpCval => self.timer_register(call, self.cntp(level)),
-            CntvTval | CntvCtl | CntvCval => self.timer_register(call, self.cntv(level)),
-            CnthpTval | CnthpCtl | CnthpCval => self.timer_register(call, self.cnthp(level)),
-            CnthvsTval | CnthvsCtl | CnthvsCval => self.timer_register(call, self.cnthvs(level)),
+            Cntpct | Cntpctss => self.counter(call, self.cntpct(level), Reading::cntpct_value),
+            Cntvct | Cntvctss => self.counter(call, self.cntvct(level), Reading::cntvct_value),
+            Cntp(part) => self.timer_register(call, part, self.cntp(level)),
+            Cntv(part) => self.timer_register(call, part, self.cntv(level)),
             Cntvoff => self.cntvoff_register(call),
+            Cnthp(part) => self.timer_register(call, part, self.cnthp(level)),
+            Cnthvs(part) => self.timer_register(call, part, self.cnthvs(level)),
         };
         if call.instruction.rt == 31 && call.instruction.direction == Direction::Mrs {
             self.rt_31_read(call, answer)
@@ -104,38 +105,30 @@ impl Reading {
         }
     }
 
-    /// The SS forms give the same and are Undefined without ECV.
-    fn self_synchronized_counter(&mut self, call: &Call) -> Answer {
-        if !self.state.ecv && self.stands(Clause::SsWithoutEcv) {
-            self.shut(call, 1, Clause::SsWithoutEcv)
-        } else {
-            self.counter(call)
+    /// The SS forms give the same and are Undefined without ECV. All four are Undefined for MSR.
+    fn counter(
+        &mut self,
+        call: &Call,
+        ruling: Ruling<()>,
+        value: fn(&mut Reading, &Call) -> u64,
+    ) -> Answer {
+        let missing = call.instruction.register.is_ss_form() && !self.state.ecv;
+        if missing && self.stands(Clause::SsWithoutEcv) {
+            return self.shut(call, 1, Clause::SsWithoutEcv);
         }
-    }
-
-    fn counter(&mut self, call: &Call) -> Answer {
         let written = call.instruction.direction == Direction::Msr;
         if written && self.stands(Clause::CounterWritten) {
             return self.shut(call, 1, Clause::CounterWritten);
         }
-        match call.instruction.register {
-            Register::Cntpct | Register::Cntpctss => {
-                self.settle(call, self.cntpct(call.level), |reading, ()| {
-                    (reading.cntpct_value(call), 0)
-                })
-            }
-            _ => self.settle(call, self.cntvct(call.level), |reading, ()| {
-                (reading.cntvct_value(call), 0)
-            }),
-        }
+        self.settle(call, ruling, |reading, ()| (value(reading, call), 0))
     }
 
-    fn timer_register(&mut self, call: &Call, ruling: Ruling<TimerName>) -> Answer {
+    fn timer_register(&mut self, call: &Call, part: Part, ruling: Ruling<TimerName>) -> Answer {
         self.settle(call, ruling, |reading, timer| {
             match call.instruction.direction {
-                Direction::Mrs => reading.read_timer(call, timer),
+                Direction::Mrs => reading.read_timer(call, part, timer),
                 Direction::Msr => {
-                    reading.write_timer(call, timer);
+                    reading.write_timer(call, part, timer);
                     reading.written(call)
                 }
             }

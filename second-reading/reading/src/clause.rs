@@ -1,17 +1,22 @@
 //! The clauses of the paper: each letter, level, refusal and value rule that can decide.
 
-use crate::register::Direction::{self, Mrs, Msr};
+use crate::instruction::Direction::{self, Mrs, Msr};
+use crate::register::Part::{self, Tval};
 use crate::register::Register::{self, *};
-use crate::state::TimerName::{self, *};
+use crate::state::TimerName;
 use crate::tally::Cell;
 
 /// The ways in which a clause has to be met before it counts as met.
-#[derive(Clone, Copy, Debug, PartialEq, Eq)]
+#[derive(Clone, Copy, Debug)]
 pub enum Scope {
     /// Once, anyhow.
     Once,
     /// By each of these registers in each of these directions.
     Calls(&'static [Register], &'static [Direction]),
+    /// By each part of a timer's family, read and written.
+    Parts(fn(Part) -> Register),
+    /// By each register that there is to be read, or to be written.
+    Every(Direction),
     /// For each of these timers.
     Timers(&'static [TimerName]),
     /// No journal given to a program can reach it: it takes a lent buffer, or a level that no
@@ -24,33 +29,44 @@ impl Scope {
     pub fn cells(self) -> Vec<Cell> {
         match self {
             Scope::Once => vec![Cell::Whole],
-            Scope::Calls(registers, directions) => registers
-                .iter()
-                .flat_map(|&register| directions.iter().map(move |&d| Cell::Call(register, d)))
-                .collect(),
+            Scope::Calls(registers, directions) => calls(registers, directions),
+            Scope::Parts(family) => calls(&Part::ALL.map(family), &Direction::ALL),
+            Scope::Every(direction) => {
+                let takes_it = |register: &Register| direction == Mrs || !register.is_counter();
+                let registers: Vec<Register> = Register::all().filter(takes_it).collect();
+                calls(&registers, &[direction])
+            }
             Scope::Timers(timers) => timers.iter().copied().map(Cell::Timer).collect(),
             Scope::OutsideJournals => Vec::new(),
         }
     }
 }
 
-const READ: &[Direction] = &[Mrs];
-const WRITE: &[Direction] = &[Msr];
-const BOTH: &[Direction] = &[Mrs, Msr];
+fn calls(registers: &[Register], directions: &[Direction]) -> Vec<Cell> {
+    let each = |&register| directions.iter().map(move |&d| Cell::Call(register, d));
+    registers.iter().flat_map(each).collect()
+}
 
-const CNTP: Scope = Scope::Calls(&[CntpTval, CntpCtl, CntpCval], BOTH);
-const CNTV: Scope = Scope::Calls(&[CntvTval, CntvCtl, CntvCval], BOTH);
-const CNTPCT: Scope = Scope::Calls(&[Cntpct, Cntpctss], READ);
-const CNTVCT: Scope = Scope::Calls(&[Cntvct, Cntvctss], READ);
-const CNTVOFF: Scope = Scope::Calls(&[Cntvoff], BOTH);
-const CNTHP: Scope = Scope::Calls(&[CnthpTval, CnthpCtl, CnthpCval], BOTH);
-const CNTHVS: Scope = Scope::Calls(&[CnthvsTval, CnthvsCtl, CnthvsCval], BOTH);
-const CNTP_TVAL: Scope = Scope::Calls(&[CntpTval], BOTH);
-const CNTV_TVAL: Scope = Scope::Calls(&[CntvTval], BOTH);
+const CNTP: Scope = Scope::Parts(Cntp);
+const CNTV: Scope = Scope::Parts(Cntv);
+const CNTPCT: Scope = Scope::Calls(&[Cntpct, Cntpctss], &[Mrs]);
+const CNTVCT: Scope = Scope::Calls(&[Cntvct, Cntvctss], &[Mrs]);
+const SS_FORMS: Scope = Scope::Calls(&[Cntpctss, Cntvctss], &Direction::ALL);
+const COUNTERS: Scope = Scope::Calls(&[Cntpct, Cntvct, Cntpctss, Cntvctss], &[Msr]);
+const CNTVOFF: Scope = Scope::Calls(&[Cntvoff], &Direction::ALL);
+const CNTHP: Scope = Scope::Parts(Cnthp);
+const CNTHVS: Scope = Scope::Parts(Cnthvs);
+const CNTP_TVAL: Scope = Scope::Calls(&[Cntp(Tval)], &Direction::ALL);
+const CNTV_TVAL: Scope = Scope::Calls(&[Cntv(Tval)], &Direction::ALL);
 const SIX: Scope = Scope::Timers(&TimerName::ALL);
-const PHYSICAL_FOUR: Scope = Scope::Timers(&[Cnthp, Cnthv, Cnthps, Cnthvs]);
-const ONLY_CNTP: Scope = Scope::Timers(&[Cntp]);
-const ONLY_CNTV: Scope = Scope::Timers(&[Cntv]);
+const OTHERS: Scope = Scope::Timers(&[
+    TimerName::Cnthp,
+    TimerName::Cnthv,
+    TimerName::Cnthps,
+    TimerName::Cnthvs,
+]);
+const ONLY_CNTP: Scope = Scope::Timers(&[TimerName::Cntp]);
+const ONLY_CNTV: Scope = Scope::Timers(&[TimerName::Cntv]);
 
 macro_rules! clauses {
     ($($name:ident $scope:expr, $words:literal;)*) => {
@@ -119,9 +135,8 @@ clauses! {
     CntvEl2 CNTV, "CNTV EL2: CNTV";
     CntvEl3 CNTV, "CNTV EL3: CNTV";
 
-    SsWithoutEcv Scope::Calls(&[Cntpctss, Cntvctss], BOTH), "SS forms Undefined without ECV";
-    CounterWritten Scope::Calls(&[Cntpct, Cntvct, Cntpctss, Cntvctss], WRITE),
-        "counters Undefined for MSR";
+    SsWithoutEcv SS_FORMS, "SS forms Undefined without ECV";
+    CounterWritten COUNTERS, "counters Undefined for MSR";
 
     CntpctEl0AToEl1 CNTPCT, "CNTPCT EL0 (a): EL1";
     CntpctEl0AToEl2 CNTPCT, "CNTPCT EL0 (a): EL2 on and TGE 1, EL2";
@@ -178,7 +193,7 @@ clauses! {
     CountCntpEl3 CNTP_TVAL, "count for CNTP at EL3: physical";
     CountCntv CNTV_TVAL, "count for CNTV, EL2 on: less CNTVOFF";
     CountCntvEl2Off CNTV_TVAL, "count for CNTV, EL2 not on: less CNTVOFF";
-    CountPhysical PHYSICAL_FOUR, "count for the other timers: physical";
+    CountPhysical OTHERS, "count for the other timers: physical";
 
     TvalUnknown SIX, "TVAL read, ENABLE 0: 64 bits unknown";
     TvalRead SIX, "TVAL read, ENABLE 1: CVAL less the count";
@@ -193,19 +208,13 @@ clauses! {
     CvalWritten SIX, "CVAL written whole";
     CntvoffRead Scope::Once, "CNTVOFF read whole";
     CntvoffWritten Scope::Once, "CNTVOFF written whole";
-    Rt31Read Scope::Calls(&Register::ALL, READ), "MRS with Rt 31 answers like any other";
-    Rt31Written Scope::Calls(
-        &[
-            CntpTval, CntpCtl, CntpCval, CntvTval, CntvCtl, CntvCval, Cntvoff, CnthpTval, CnthpCtl,
-            CnthpCval, CnthvsTval, CnthvsCtl, CnthvsCval,
-        ],
-        WRITE,
-    ), "MSR with Rt 31 writes 0";
+    Rt31Read Scope::Every(Mrs), "MRS with Rt 31 answers like any other";
+    Rt31Written Scope::Every(Msr), "MSR with Rt 31 writes 0";
 
     MetCountCntv ONLY_CNTV, "met, CNTV: physical less CNTVOFF";
     MetCountHouseRule ONLY_CNTP, "met, CNTP with offset on: less CNTPOFF (house rule)";
     MetCountCntp ONLY_CNTP, "met, CNTP with offset not on: physical";
-    MetCountPhysical PHYSICAL_FOUR, "met, other timers: physical";
+    MetCountPhysical OTHERS, "met, other timers: physical";
 
     LinesE2hWithoutVhe Scope::Once, "lines, 5: E2H 1 without VHE";
     LinesEel2WithoutSel2 Scope::Once, "lines, 5: EEL2 1 without SEL2";

@@ -3,7 +3,7 @@
 use crate::access::{Access, Answer};
 use crate::bits::{Packer, Unpacker};
 use crate::clause::Clause;
-use crate::register::Instruction;
+use crate::instruction::Instruction;
 use crate::slip::Slip;
 use crate::tally::Cell;
 use crate::words::Reading;

@@ -5,7 +5,7 @@ use std::fmt;
 use crate::access::{Access, Answer};
 use crate::clause::Clause;
 use crate::control::Control;
-use crate::register::Instruction;
+use crate::instruction::Instruction;
 use crate::words::Reading;
 
 macro_rules! slips {
@@ -90,7 +90,7 @@ impl Slip {
     /// Every misreading there is.
     pub fn all() -> Vec<Slip> {
         let left_out = Clause::GATES.iter().copied().map(Slip::LeftOut);
-        let moved = Control::ALL.into_iter().map(Slip::Moved);
+        let moved = Control::ALL.iter().copied().map(Slip::Moved);
         SINGLE
             .iter()
             .copied()

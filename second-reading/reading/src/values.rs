@@ -2,7 +2,7 @@
 
 use crate::access::Call;
 use crate::clause::Clause;
-use crate::register::Register;
+use crate::register::Part;
 use crate::slip::Slip;
 use crate::state::TimerName;
 use crate::words::Reading;
@@ -15,43 +15,24 @@ const ENABLE: u64 = 1;
 const IMASK: u64 = 2;
 const ISTATUS: u64 = 4;
 
-/// The three registers through which a timer is seen.
-#[derive(Clone, Copy, Debug, PartialEq, Eq)]
-enum View {
-    Tval,
-    Ctl,
-    Cval,
-}
-
-impl View {
-    fn of(register: Register) -> View {
-        use Register::*;
-        match register {
-            CntpTval | CntvTval | CnthpTval | CnthvsTval => View::Tval,
-            CntpCtl | CntvCtl | CnthpCtl | CnthvsCtl => View::Ctl,
-            _ => View::Cval,
-        }
-    }
-}
-
 impl Reading {
-    pub(crate) fn read_timer(&mut self, call: &Call, timer: TimerName) -> Masked {
-        match View::of(call.instruction.register) {
-            View::Tval => self.read_tval(call, timer),
-            View::Ctl => self.read_ctl(call, timer),
-            View::Cval => {
+    pub(crate) fn read_timer(&mut self, call: &Call, part: Part, timer: TimerName) -> Masked {
+        match part {
+            Part::Tval => self.read_tval(call, timer),
+            Part::Ctl => self.read_ctl(call, timer),
+            Part::Cval => {
                 self.note(Clause::CvalRead, timer);
                 (self.state.timer(timer).cval, 0)
             }
         }
     }
 
-    pub(crate) fn write_timer(&mut self, call: &Call, timer: TimerName) {
+    pub(crate) fn write_timer(&mut self, call: &Call, part: Part, timer: TimerName) {
         let operand = self.operand(call);
-        match View::of(call.instruction.register) {
-            View::Tval => self.write_tval(call, timer, operand),
-            View::Ctl => self.write_ctl(timer, operand),
-            View::Cval => self.write_cval(timer, operand),
+        match part {
+            Part::Tval => self.write_tval(call, timer, operand),
+            Part::Ctl => self.write_ctl(timer, operand),
+            Part::Cval => self.write_cval(timer, operand),
         }
     }
 

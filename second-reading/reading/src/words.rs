@@ -66,7 +66,7 @@ impl Reading {
     pub(crate) fn bit(&self, control: Control) -> bool {
         let place = match self.slip {
             Slip::Moved(moved) if moved == control => control.place() + 1,
-            Slip::El1ptenInBit1 if control == Control::CnthctlEl1ptenE2h1 => 1,
+            Slip::El1ptenInBit1 if control == Control::CnthctlEl1pten => 1,
             _ => control.place(),
         };
         control.register(&self.state) >> place & 1 == 1

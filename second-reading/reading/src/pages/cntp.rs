@@ -48,9 +48,9 @@ impl Reading {
     /// EL2 is on and its E2H and TGE are not both 1.
     fn cntp_at_el0_of_guest(&self) -> Ruling<TimerName> {
         let (control, letter) = if self.state.e2h {
-            (Control::CnthctlEl1ptenE2h1, Clause::CntpEl0C)
+            (Control::CnthctlEl1pten, Clause::CntpEl0C)
         } else {
-            (Control::CnthctlEl1pcenE2h0, Clause::CntpEl0B)
+            (Control::CnthctlEl1pcen, Clause::CntpEl0B)
         };
         if !self.bit(control) && self.stands(letter) {
             Ruling::trap_to_el2(letter)
@@ -61,9 +61,9 @@ impl Reading {
 
     fn cntp_at_el1(&self) -> Ruling<TimerName> {
         let (control, gate) = if self.state.e2h {
-            (Control::CnthctlEl1ptenE2h1, Clause::CntpEl1Pten)
+            (Control::CnthctlEl1pten, Clause::CntpEl1Pten)
         } else {
-            (Control::CnthctlEl1pcenE2h0, Clause::CntpEl1Pcen)
+            (Control::CnthctlEl1pcen, Clause::CntpEl1Pcen)
         };
         if self.el2_on() && !self.bit(control) && self.stands(gate) {
             Ruling::trap_to_el2(gate)
