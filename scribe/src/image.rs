@@ -50,8 +50,8 @@ impl State {
         bytes
     }
 
-    /// The state of an image. Only the one image of a state is taken, so that nothing that stands in
-    /// the bytes stays unseen.
+    /// The state of an image. Only the one image of a state is taken, so that nothing that stands
+    /// in the bytes stays unseen.
     pub fn from_image(bytes: &[u8; IMAGE_BYTES]) -> Result<State, ImageError> {
         let mut fields = Unpacker::new(bytes);
         let mut state = State::default();

@@ -1,7 +1,7 @@
 //! Journals for people: text to records, and records, answers and states to words.
 //!
-//! The bytes are those of docs/FORMATS.md. A text goes through [`entries`] to records; [`show`] takes
-//! whole files of bytes to lines, and [`words`] one thing at a time.
+//! The bytes are those of docs/FORMATS.md. A text goes through [`entries`] to records; [`show`]
+//! takes whole files of bytes to lines, and [`words`] one thing at a time.
 
 mod answer;
 mod bits;

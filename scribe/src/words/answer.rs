@@ -1,4 +1,5 @@
-//! An answer in words. What does not belong in it stands in brackets behind, so that nothing is hidden.
+//! An answer in words. What does not belong in it stands in brackets behind, so that nothing is
+//! hidden.
 
 use crate::answer::Answer;
 use crate::instruction::{rt_of, Direction, Instruction};

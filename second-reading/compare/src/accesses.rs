@@ -19,7 +19,7 @@ enum Plan {
 pub(crate) struct Author<'a> {
     dice: &'a mut Dice,
     numbers: &'a mut Numbers,
-    guide: Reading,
+    guide: Reading<'static>,
 }
 
 impl<'a> Author<'a> {

@@ -1,5 +1,5 @@
-//! Differences between what was expected and what was written, in the words of scribe, which shows the
-//! same bytes to whoever makes a case again.
+//! Differences between what was expected and what was written, in the words of scribe, which shows
+//! the same bytes to whoever makes a case again.
 
 use scribe::{words, Answer, Record, State, IMAGE_BYTES, TIMERS};
 
@@ -135,7 +135,7 @@ fn raised([number, lines]: [u8; 2]) -> String {
 mod tests {
     use super::*;
     use crate::expected::expected;
-    use reading::{Slip, RECORD_BYTES};
+    use reading::{AsWritten, RECORD_BYTES};
 
     const ORDINARY: u64 = 7;
 
@@ -145,7 +145,7 @@ mod tests {
 
     fn with_byte_changed(place: impl Fn(usize) -> usize) -> String {
         let case = Case::of(ORDINARY);
-        let expected = expected(&case, Slip::None);
+        let expected = expected(&case, &AsWritten);
         let mut found = expected.output.clone();
         found[place(expected.output.len())] ^= 1;
         explain(&case, expected.by_reading(), by_probe(&found))
@@ -155,7 +155,7 @@ mod tests {
     #[test]
     fn the_same_bytes_do_not_differ() {
         let case = Case::of(ORDINARY);
-        let expected = expected(&case, Slip::None);
+        let expected = expected(&case, &AsWritten);
         let found = by_probe(&expected.output);
         assert_eq!(explain(&case, expected.by_reading(), found), None);
     }
@@ -190,7 +190,7 @@ mod tests {
     #[test]
     fn another_length_is_told() {
         let case = Case::of(ORDINARY);
-        let expected = expected(&case, Slip::None);
+        let expected = expected(&case, &AsWritten);
         let shorter = by_probe(&expected.output[..130]);
         let told = explain(&case, expected.by_reading(), shorter).expect("shorter");
         assert!(told.contains("probe wrote 130 bytes where 4930 were expected"));

@@ -1,6 +1,6 @@
 //! A loan: the journal of a case with a lent buffer that need not be as long.
 
-use reading::{Clause, Reading, Slip, RECORD_BYTES};
+use reading::{Clause, Paper, Reading, RECORD_BYTES};
 
 use crate::case::{Case, Kind};
 use crate::difference::{explain_parts, Output};
@@ -85,9 +85,9 @@ impl Loan {
     }
 
     /// The number of the run, every lent byte, and the end of any output.
-    pub(crate) fn expected(&self, slip: Slip) -> Expected {
+    pub(crate) fn expected(&self, paper: &dyn Paper) -> Expected {
         let journal = &self.case.journal[..];
-        let mut reading = Reading::slipped(self.case.state, slip);
+        let mut reading = Reading::of(paper, self.case.state);
         let mut buffer = vec![UNTOUCHED; self.bytes];
         let number = reading.run(journal, &mut buffer);
         let served = if number == 0 { journal } else { &[] };
@@ -123,13 +123,14 @@ fn number_and_buffer(expected: Output, found: Output) -> String {
 #[cfg(test)]
 mod tests {
     use super::*;
+    use reading::AsWritten;
 
     const EMPTY_JOURNAL: u64 = 0;
     const ONE_RECORD: u64 = 1;
 
     fn expected(lent: Lent) -> Vec<u8> {
         let loan = Loan::of(ONE_RECORD, lent).expect("a record has room on both sides");
-        loan.expected(Slip::None).output
+        loan.expected(&AsWritten).output
     }
 
     #[test]

@@ -1,51 +1,13 @@
 //! The clauses of the paper: each letter, level, refusal and value rule that can decide.
 
+use std::fmt;
+
 use crate::instruction::Direction::{self, Mrs, Msr};
-use crate::register::Part::{self, Tval};
-use crate::register::Register::{self, *};
+use crate::record::RECORD_LIMIT;
+use crate::register::Part::Tval;
+use crate::register::Register::*;
+use crate::scope::Scope;
 use crate::state::TimerName;
-use crate::tally::Cell;
-
-/// The ways in which a clause has to be met before it counts as met.
-#[derive(Clone, Copy, Debug)]
-pub enum Scope {
-    /// Once, anyhow.
-    Once,
-    /// By each of these registers in each of these directions.
-    Calls(&'static [Register], &'static [Direction]),
-    /// By each part of a timer's family, read and written.
-    Parts(fn(Part) -> Register),
-    /// By each register that there is to be read, or to be written.
-    Every(Direction),
-    /// For each of these timers.
-    Timers(&'static [TimerName]),
-    /// No journal given to a program can reach it: it takes a lent buffer, or a level that no
-    /// record holds.
-    OutsideJournals,
-}
-
-impl Scope {
-    /// Each way by itself.
-    pub fn cells(self) -> Vec<Cell> {
-        match self {
-            Scope::Once => vec![Cell::Whole],
-            Scope::Calls(registers, directions) => calls(registers, directions),
-            Scope::Parts(family) => calls(&Part::ALL.map(family), &Direction::ALL),
-            Scope::Every(direction) => {
-                let takes_it = |register: &Register| direction == Mrs || !register.is_counter();
-                let registers: Vec<Register> = Register::all().filter(takes_it).collect();
-                calls(&registers, &[direction])
-            }
-            Scope::Timers(timers) => timers.iter().copied().map(Cell::Timer).collect(),
-            Scope::OutsideJournals => Vec::new(),
-        }
-    }
-}
-
-fn calls(registers: &[Register], directions: &[Direction]) -> Vec<Cell> {
-    let each = |&register| directions.iter().map(move |&d| Cell::Call(register, d));
-    registers.iter().flat_map(each).collect()
-}
 
 const CNTP: Scope = Scope::Parts(Cntp);
 const CNTV: Scope = Scope::Parts(Cntv);
@@ -77,21 +39,37 @@ macro_rules! clauses {
         impl Clause {
             pub const ALL: &'static [Clause] = &[$(Clause::$name,)*];
 
-            /// The clause in words close to the paper's.
-            pub fn words(self) -> &'static str {
-                match self { $(Clause::$name => $words,)* }
-            }
-
             pub fn scope(self) -> Scope {
                 match self { $(Clause::$name => $scope,)* }
+            }
+        }
+
+        /// The clause in words close to the paper's.
+        impl fmt::Display for Clause {
+            fn fmt(&self, f: &mut fmt::Formatter<'_>) -> fmt::Result {
+                match self { $(Clause::$name => write!(f, $words),)* }
             }
         }
     };
 }
 
+/// A number as the paper writes it, with a comma before the last three digits.
+pub struct InPrint(pub usize);
+
+impl fmt::Display for InPrint {
+    fn fmt(&self, f: &mut fmt::Formatter<'_>) -> fmt::Result {
+        match self.0 {
+            small @ ..1000 => write!(f, "{small}"),
+            large => write!(f, "{},{:03}", large / 1000, large % 1000),
+        }
+    }
+}
+
+const LIMIT: InPrint = InPrint(RECORD_LIMIT);
+
 clauses! {
     JournalRagged Scope::Once, "7: not a whole number of records";
-    JournalTooLong Scope::Once, "7: over 1,024 records";
+    JournalTooLong Scope::Once, "7: over {LIMIT} records";
     BufferShort Scope::OutsideJournals, "8: answer buffer shorter than the journal";
     RunDone Scope::Once, "0: the run not refused";
     ReservedBit Scope::Once, "6: reserved bit set";
@@ -228,75 +206,13 @@ clauses! {
     LineBelowCval SIX, "line: ENABLE 1 and the count 1 below CVAL: not met";
 }
 
-impl Clause {
-    /// The clauses whose absence a [`Slip`](crate::Slip) can play.
-    pub const GATES: &'static [Clause] = &[
-        Clause::JournalRagged,
-        Clause::BufferShort,
-        Clause::ReservedBit,
-        Clause::E2hWithoutVhe,
-        Clause::Eel2WithoutSel2,
-        Clause::EcvenWithoutEcv,
-        Clause::CnthctlWithoutEcv,
-        Clause::El2NotOn,
-        Clause::El1UnderTge,
-        Clause::CntpEl0AToEl1,
-        Clause::CntpEl0AToEl2,
-        Clause::CntpEl0B,
-        Clause::CntpEl0C,
-        Clause::CntpEl0D,
-        Clause::CntpEl0E,
-        Clause::CntpEl0F,
-        Clause::CntpEl1Pcen,
-        Clause::CntpEl1Pten,
-        Clause::CntpEl2Secure,
-        Clause::CntpEl2NotSecure,
-        Clause::CntvEl0AToEl1,
-        Clause::CntvEl0AToEl2,
-        Clause::CntvEl0B,
-        Clause::CntvEl0C,
-        Clause::CntvEl0D,
-        Clause::CntvEl0E,
-        Clause::CntvEl1Tvt,
-        Clause::CntvEl2Secure,
-        Clause::CntvEl2NotSecure,
-        Clause::SsWithoutEcv,
-        Clause::CounterWritten,
-        Clause::CntpctEl0AToEl1,
-        Clause::CntpctEl0AToEl2,
-        Clause::CntpctEl0B,
-        Clause::CntpctEl0C,
-        Clause::CntpctEl0D,
-        Clause::CntpctEl1E2h0,
-        Clause::CntpctEl1E2h1,
-        Clause::CntpctLessOffsetEl0,
-        Clause::CntpctLessOffsetEl1,
-        Clause::CntvctEl0AToEl1,
-        Clause::CntvctEl0AToEl2,
-        Clause::CntvctEl0B,
-        Clause::CntvctEl0C,
-        Clause::CntvctEl1Tvct,
-        Clause::CntvctHost,
-        Clause::CntvctE2h,
-        Clause::CntvoffEl0,
-        Clause::CntvoffEl1,
-        Clause::CnthpEl0,
-        Clause::CnthpEl1,
-        Clause::CnthvsMissing,
-        Clause::CnthvsEl0,
-        Clause::CnthvsEl1,
-        Clause::CnthvsEl2NotSecure,
-        Clause::CnthvsEl3Eel2,
-        Clause::CountCntpLessOffsetEl0,
-        Clause::CountCntpLessOffsetEl1,
-        Clause::TvalUnknown,
-        Clause::CtlUnknown,
-        Clause::Rt31Written,
-        Clause::MetCountHouseRule,
-        Clause::LinesE2hWithoutVhe,
-        Clause::LinesEel2WithoutSel2,
-        Clause::LinesEcvenWithoutEcv,
-        Clause::LinesCnthctlWithoutEcv,
-        Clause::LineMasked,
-    ];
+#[cfg(test)]
+mod tests {
+    use super::*;
+
+    #[test]
+    fn a_number_is_printed_as_the_paper_prints_it() {
+        let printed = [24, 999, 1000, 1024, 12_345].map(|number| InPrint(number).to_string());
+        assert_eq!(printed, ["24", "999", "1,000", "1,024", "12,345"]);
+    }
 }

@@ -6,7 +6,8 @@ use crate::state::State;
 
 macro_rules! controls {
     ($($control:ident $register:ident $name:literal $place:literal;)*) => {
-        /// A control bit. EL1PCTEN, which both layouts of CNTHCTL have, is known by its E2H.
+        /// A control bit. One that both registers have is known by its register, EL1PCTEN by its
+        /// E2H.
         #[derive(Clone, Copy, Debug, PartialEq, Eq)]
         pub enum Control { $($control,)* }
 
@@ -38,21 +39,21 @@ controls! {
     CntkctlEl0pten cntkctl "EL0PTEN" 9;
 
     // With E2H 0.
-    CnthctlEl1pctenE2h0 cnthctl "EL1PCTEN" 0;
-    CnthctlEl1pcen cnthctl "EL1PCEN" 1;
+    El1pctenE2h0 cnthctl "EL1PCTEN" 0;
+    El1pcen cnthctl "EL1PCEN" 1;
 
     // With E2H 1.
     CnthctlEl0pcten cnthctl "EL0PCTEN" 0;
     CnthctlEl0vcten cnthctl "EL0VCTEN" 1;
     CnthctlEl0vten cnthctl "EL0VTEN" 8;
     CnthctlEl0pten cnthctl "EL0PTEN" 9;
-    CnthctlEl1pctenE2h1 cnthctl "EL1PCTEN" 10;
-    CnthctlEl1pten cnthctl "EL1PTEN" 11;
+    El1pctenE2h1 cnthctl "EL1PCTEN" 10;
+    El1pten cnthctl "EL1PTEN" 11;
 
     // Either way.
-    CnthctlEcv cnthctl "ECV" 12;
-    CnthctlEl1tvt cnthctl "EL1TVT" 13;
-    CnthctlEl1tvct cnthctl "EL1TVCT" 14;
+    Ecv cnthctl "ECV" 12;
+    El1tvt cnthctl "EL1TVT" 13;
+    El1tvct cnthctl "EL1TVCT" 14;
 }
 
 impl fmt::Display for Control {

@@ -1,6 +1,6 @@
 //! Refusals, their order, and the edges of the journal.
 
-use reading::{Access, Answer, Clause, Reading, Record, Slip, State, RECORD_BYTES, RECORD_LIMIT};
+use reading::{Access, Answer, Reading, Record, State, RECORD_BYTES, RECORD_LIMIT};
 
 const CNTVCT: u32 = 0xD53B_E040;
 const NO_NAME: u32 = 0xD53B_E000;
@@ -268,13 +268,4 @@ fn a_short_buffer_is_refused_with_8_and_stays() {
         7,
         "7 before 8"
     );
-}
-
-#[test]
-fn every_gate_left_out_and_every_slip_is_a_different_one() {
-    let slips = Slip::all();
-    for (place, slip) in slips.iter().enumerate() {
-        assert!(!slips[..place].contains(slip), "{slip} stands twice");
-    }
-    assert!(slips.len() > Clause::GATES.len() + 25);
 }

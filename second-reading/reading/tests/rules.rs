@@ -3,7 +3,7 @@
 use reading::{Access, Answer, Direction, Instruction, Part, Reading, Register, State, TimerName};
 
 struct Bench {
-    reading: Reading,
+    reading: Reading<'static>,
 }
 
 impl Bench {
