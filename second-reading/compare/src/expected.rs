@@ -63,14 +63,15 @@ fn last_count(journal: &[u8]) -> u64 {
 #[cfg(test)]
 mod tests {
     use super::*;
-    use reading::AsWritten;
+    use reading::{AsWritten, RECORD_LIMIT};
 
     #[test]
     fn each_kind_has_the_length_of_its_output() {
         let lengths: Vec<usize> = (0..8)
             .map(|seed| expected(&Case::of(seed), &AsWritten).output.len())
             .collect();
-        let full = 1024 * 24 + 130;
-        assert_eq!(lengths, [130, 154, 130, full, 130, 130, 0, 200 * 24 + 130]);
+        let with = |records| records * RECORD_BYTES + 130;
+        let [none, one, full, ordinary] = [0, 1, RECORD_LIMIT, 200].map(with);
+        assert_eq!(lengths, [none, one, none, full, none, none, 0, ordinary]);
     }
 }

@@ -138,27 +138,28 @@ mod tests {
         let lengths = [
             (Lent::Empty, 0),
             (Lent::OneRecordShort, 0),
-            (Lent::OneByteShort, 23),
+            (Lent::OneByteShort, RECORD_BYTES - 1),
         ];
         for (lent, bytes) in lengths {
             let output = expected(lent);
             assert_eq!(output.len(), 1 + bytes + 130, "{lent:?}");
             assert_eq!(output[0], 8, "{lent:?}");
-            assert_eq!(output[1..][..bytes], [UNTOUCHED; 24][..bytes], "{lent:?}");
+            let lent_bytes = &output[1..][..bytes];
+            assert!(lent_bytes.iter().all(|&byte| byte == UNTOUCHED), "{lent:?}");
         }
     }
 
     #[test]
     fn a_long_buffer_is_touched_up_to_the_last_answer() {
         let lengths = [
-            (Lent::AsLong, 24),
-            (Lent::OneByteLonger, 25),
-            (Lent::MuchLonger, 1024),
+            (Lent::AsLong, RECORD_BYTES),
+            (Lent::OneByteLonger, RECORD_BYTES + 1),
+            (Lent::MuchLonger, RECORD_BYTES + 1000),
         ];
         for (lent, bytes) in lengths {
             let output = expected(lent);
             assert_eq!(output.len(), 1 + bytes + 130, "{lent:?}");
-            let (answer, rest) = output[1..][..bytes].split_at(24);
+            let (answer, rest) = output[1..][..bytes].split_at(RECORD_BYTES);
             assert_eq!(output[0], 0, "{lent:?}");
             assert!(answer.contains(&0), "{lent:?}");
             assert!(rest.iter().all(|&byte| byte == UNTOUCHED), "{lent:?}");
