@@ -19,7 +19,7 @@ pub struct AsWritten;
 impl Paper for AsWritten {}
 
 pub trait Paper {
-    // The machine we model
+    // 'The machine we model'
 
     /// Where a control bit stands.
     fn place(&self, control: Control) -> u32 {
@@ -54,7 +54,7 @@ pub trait Paper {
             && !self.host(state)
     }
 
-    // Who may touch what
+    // 'Who may touch what'
 
     /// Rules are tried in order; the first that fits decides. None is passed over.
     fn tries(&self, _rule: Clause) -> bool {
@@ -91,7 +91,7 @@ pub trait Paper {
         physical
     }
 
-    // Values
+    // 'Values'
 
     /// TVAL read: ENABLE 0, all 64 bits unknown.
     fn disabled_tval(&self) -> Masked {
@@ -139,7 +139,7 @@ pub trait Paper {
         timer.enable && count >= timer.cval
     }
 
-    // What the desk answers
+    // 'What the desk answers'
 
     /// Each record is answered by the rules.
     fn answer(&self, reading: &mut Reading, record: &Record) -> Answer {
@@ -166,7 +166,7 @@ pub trait Paper {
         answers < journal
     }
 
-    // The access journal
+    // 'The access journal'
 
     /// Records run in order on one state, and each answer is written into its own part of the lent
     /// buffer. Gives the number of the run.
