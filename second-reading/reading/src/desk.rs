@@ -6,7 +6,7 @@ use crate::instruction::Direction;
 use crate::pages::{Ruling, Way};
 use crate::reading::Reading;
 use crate::record::Record;
-use crate::refusal::Refusal;
+use crate::refusal::{named, Refusal};
 use crate::register::{Part, Register};
 use crate::state::TimerName;
 use crate::tally::Cell;
@@ -40,7 +40,7 @@ impl Reading<'_> {
     fn admitted(&self, record: &Record) -> Result<Call, Refusal> {
         let access = &record.access;
         let unreserved = self.unless(&[(ReservedBit, record.reserved != 0, 6)]);
-        let asked = self.both(self.named(access.word), self.possible(access.level));
+        let asked = self.both(named(access.word), self.possible(access.level));
         let ((), (instruction, level)) = self.both(unreserved, asked)?;
         Ok(Call {
             instruction,

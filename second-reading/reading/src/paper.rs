@@ -26,6 +26,7 @@ pub trait Paper {
         control.place()
     }
 
+    /// Whether a control bit is 1.
     fn bit(&self, state: &State, control: Control) -> bool {
         control.register(state) >> self.place(control) & 1 == 1
     }

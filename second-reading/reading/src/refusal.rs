@@ -12,6 +12,17 @@ pub(crate) struct Refusal {
     pub(crate) clause: Clause,
 }
 
+/// 4: not MRS/MSR, or not in the name table.
+pub(crate) fn named(word: u32) -> Result<Instruction, Refusal> {
+    Instruction::of(word).map_err(|stranger| Refusal {
+        number: 4,
+        clause: match stranger {
+            Stranger::NotMrsOrMsr => NotMrsOrMsr,
+            Stranger::NotInTheTable => NotInTheTable,
+        },
+    })
+}
+
 impl Reading<'_> {
     /// Refused with the number of the first ground that holds.
     pub(crate) fn unless(&self, grounds: &[Rule<u8>]) -> Result<(), Refusal> {
@@ -38,17 +49,6 @@ impl Reading<'_> {
     fn turn(&self, refusal: Refusal) -> Option<usize> {
         let order = self.paper.order();
         order.iter().position(|&number| number == refusal.number)
-    }
-
-    /// 4: not MRS/MSR, or not in the name table.
-    pub(crate) fn named(&self, word: u32) -> Result<Instruction, Refusal> {
-        Instruction::of(word).map_err(|stranger| Refusal {
-            number: 4,
-            clause: match stranger {
-                Stranger::NotMrsOrMsr => NotMrsOrMsr,
-                Stranger::NotInTheTable => NotInTheTable,
-            },
-        })
     }
 
     /// 5 holds exactly when: level above 3; E2H 1 without VHE; EEL2 1 without SEL2; ECVEn or
