@@ -4,7 +4,6 @@
 //! timer for 50 ticks.
 //!
 //!     rt staticlib lent
-//!     cd second-reading
 //!     cargo run -p elsterkabel --features link --example trap_handler
 
 use elsterkabel::{number, Controls, Features, State};

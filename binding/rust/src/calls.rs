@@ -38,9 +38,9 @@ impl State {
         unsafe { elsterkabel_access_in(self, word, level, operand, count) }
     }
 
-    /// A journal of accesses, run in order on the state; answer i is written to the 24 bytes of
-    /// the buffer from 24 times i on, and no other byte of it is touched. Gives 0, 7 or 8; on 7
-    /// and 8 nothing is written.
+    /// A journal of accesses, run in order on the state; answer i is written to part i of the
+    /// buffer, in parts of [`RECORD_BYTES`](crate::RECORD_BYTES), and no other byte of it is
+    /// touched. Gives 0, 7 or 8; on 7 and 8 nothing is written.
     #[inline]
     #[must_use = "on 7 and 8 nothing was written"]
     pub fn run(&mut self, journal: &[u8], answers: &mut [u8]) -> u8 {

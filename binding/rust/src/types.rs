@@ -12,7 +12,7 @@ pub mod number {
     pub const IMPOSSIBLE_CONTEXT: u8 = 5;
     /// In a journal's record.
     pub const RESERVED_BIT_SET: u8 = 6;
-    /// Of a whole run: ragged, or over 1,024 records.
+    /// Of a whole run: ragged, or over [`RECORD_LIMIT`](crate::RECORD_LIMIT) records.
     pub const BAD_JOURNAL: u8 = 7;
     /// Of a whole run.
     pub const BUFFER_TOO_SHORT: u8 = 8;

@@ -132,8 +132,8 @@ fn a_level_above_3_cannot_be() {
 fn a_run_writes_its_answers_and_no_byte_behind_them() {
     let mut expected = [0; 2 * RECORD_BYTES + 3];
     expected[14..16].copy_from_slice(&[0x02, 0x58]);
-    expected[24] = 0x30;
-    expected[48..].fill(UNTOUCHED);
+    expected[RECORD_BYTES] = 0x30;
+    expected[2 * RECORD_BYTES..].fill(UNTOUCHED);
 
     let mut state = bench();
     let mut answers = [UNTOUCHED; 2 * RECORD_BYTES + 3];

@@ -1,17 +1,12 @@
 //! Records: every register in both directions at every level, and words that miss by a little.
 
-use reading::{Access, Direction, Instruction, Reading, Record, Register, State, TimerName};
+use reading::{
+    Access, Direction, Instruction, Level, Part, Reading, Record, Register, State, TimerName,
+};
 
 use crate::aim::{due, likely_timer};
 use crate::dice::Dice;
 use crate::numbers::Numbers;
-
-const CTL: [Register; 4] = [
-    Register::CntpCtl,
-    Register::CntvCtl,
-    Register::CnthpCtl,
-    Register::CnthvsCtl,
-];
 
 /// What a record asks, before its numbers are drawn.
 #[derive(Clone, Copy)]
@@ -24,7 +19,7 @@ enum Plan {
 pub(crate) struct Author<'a> {
     dice: &'a mut Dice,
     numbers: &'a mut Numbers,
-    guide: Reading,
+    guide: Reading<'static>,
 }
 
 impl<'a> Author<'a> {
@@ -84,7 +79,8 @@ impl<'a> Author<'a> {
             4 => self.dice.any() as u32,
             5 => self.neighbour(word),
             6 => {
-                let register = self.dice.pick(&CTL);
+                let controls: Vec<Register> = Register::all().filter(is_ctl).collect();
+                let register = self.dice.pick(&controls);
                 self.word(register, Direction::Mrs)
             }
             _ => word,
@@ -111,7 +107,7 @@ impl<'a> Author<'a> {
     /// The count; for most status reads at or next to the moment the status changes.
     fn count(&mut self, word: u32, level: u8) -> u64 {
         let status_read = |instruction: &Instruction| {
-            CTL.contains(&instruction.register) && instruction.direction == Direction::Mrs
+            is_ctl(&instruction.register) && instruction.direction == Direction::Mrs
         };
         let state = &self.guide.state;
         let timer = Instruction::of(word)
@@ -126,7 +122,7 @@ impl<'a> Author<'a> {
 
     /// The operand; for many control writes one that enables the timer.
     fn operand(&mut self, word: u32) -> u64 {
-        let control = Instruction::of(word).is_ok_and(|i| CTL.contains(&i.register));
+        let control = Instruction::of(word).is_ok_and(|i| is_ctl(&i.register));
         if control && self.dice.percent(50) {
             self.dice.any() | 1
         } else {
@@ -143,7 +139,8 @@ impl<'a> Author<'a> {
     }
 
     fn named_word(&mut self) -> u32 {
-        let register = self.dice.pick(&Register::ALL);
+        let registers: Vec<Register> = Register::all().collect();
+        let register = self.dice.pick(&registers);
         let direction = self.dice.pick(&Direction::ALL);
         self.word(register, direction)
     }
@@ -180,11 +177,15 @@ impl<'a> Author<'a> {
     }
 }
 
+fn is_ctl(register: &Register) -> bool {
+    register.part() == Some(Part::Ctl)
+}
+
 fn every_access() -> Vec<Plan> {
     let mut plans = Vec::new();
-    for register in Register::ALL {
+    for register in Register::all() {
         for direction in Direction::ALL {
-            plans.extend((0..4).map(|level| Plan::Of(register, direction, level)));
+            plans.extend(Level::ALL.map(|level| Plan::Of(register, direction, level as u8)));
         }
     }
     plans

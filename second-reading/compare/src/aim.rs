@@ -10,8 +10,13 @@ pub(crate) fn due(dice: &mut Dice, state: &State, timer: TimerName) -> u64 {
         TimerName::Cntv => state.cntvoff,
         TimerName::Cntp if likely_offset_on(state) => dice.pick(&[state.cntpoff, state.cntpoff, 0]),
         TimerName::Cntp => dice.pick(&[0, 0, state.cntpoff]),
-        _ if dice.percent(10) => state.cntvoff,
-        _ => 0,
+        TimerName::Cnthp | TimerName::Cnthv | TimerName::Cnthps | TimerName::Cnthvs => {
+            if dice.percent(10) {
+                state.cntvoff
+            } else {
+                0
+            }
+        }
     };
     let met_at = state.timer(timer).cval.wrapping_add(offset);
     met_at.wrapping_add(dice.below(3)).wrapping_sub(1)
@@ -30,14 +35,14 @@ pub(crate) fn likely_timer(
     use Register::*;
     let redirected = state.e2h && (level == 2 || level == 0 && state.tge);
     match (instruction.register, redirected, state.ns) {
-        (CntpTval | CntpCtl | CntpCval, false, _) => Some(TimerName::Cntp),
-        (CntpTval | CntpCtl | CntpCval, true, true) => Some(TimerName::Cnthp),
-        (CntpTval | CntpCtl | CntpCval, true, false) => Some(TimerName::Cnthps),
-        (CntvTval | CntvCtl | CntvCval, false, _) => Some(TimerName::Cntv),
-        (CntvTval | CntvCtl | CntvCval, true, true) => Some(TimerName::Cnthv),
-        (CntvTval | CntvCtl | CntvCval, true, false) => Some(TimerName::Cnthvs),
-        (CnthpTval | CnthpCtl | CnthpCval, ..) => Some(TimerName::Cnthp),
-        (CnthvsTval | CnthvsCtl | CnthvsCval, ..) => Some(TimerName::Cnthvs),
+        (Cntp(_), false, _) => Some(TimerName::Cntp),
+        (Cntp(_), true, true) => Some(TimerName::Cnthp),
+        (Cntp(_), true, false) => Some(TimerName::Cnthps),
+        (Cntv(_), false, _) => Some(TimerName::Cntv),
+        (Cntv(_), true, true) => Some(TimerName::Cnthv),
+        (Cntv(_), true, false) => Some(TimerName::Cnthvs),
+        (Cnthp(_), ..) => Some(TimerName::Cnthp),
+        (Cnthvs(_), ..) => Some(TimerName::Cnthvs),
         (Cntpct | Cntvct | Cntpctss | Cntvctss | Cntvoff, ..) => None,
     }
 }

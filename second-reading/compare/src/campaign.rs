@@ -2,7 +2,8 @@
 
 use std::collections::HashSet;
 
-use reading::{Slip, Tally};
+use reading::{AsWritten, Tally};
+use slips::Slip;
 
 use crate::case::{Case, Kind};
 use crate::difference::{explain, Output};
@@ -58,7 +59,7 @@ impl Campaign {
         let mut answered = 0;
         let mut told = Vec::new();
         for captured in &self.captured {
-            let expected = expected(&captured.case, Slip::None);
+            let expected = expected(&captured.case, &AsWritten);
             told.extend(captured.difference(expected.by_reading()));
             tally.add(&expected.tally);
             answered += expected.answered;
@@ -87,10 +88,10 @@ impl Campaign {
     }
 
     /// The place of the first case that tells a slipped reading from the program.
-    pub fn catches(&self, slip: Slip) -> Option<usize> {
-        self.captured
-            .iter()
-            .position(|captured| expected(&captured.case, slip).output != captured.ran.output)
+    pub fn catches(&self, slip: &Slip) -> Option<usize> {
+        self.captured.iter().position(|captured| {
+            expected(&captured.case, slip.paper()).output != captured.ran.output
+        })
     }
 }
 

@@ -120,12 +120,13 @@ mod tests {
     fn each_kind_has_its_length() {
         let lengths: Vec<usize> = (0..8).map(|seed| Case::of(seed).journal.len()).collect();
         assert_eq!(lengths[0], 0);
-        assert_eq!(lengths[1], 24);
-        assert_ne!(lengths[2] % 24, 0);
-        assert_eq!(lengths[3..5], [1024 * 24, 1025 * 24]);
-        assert!(lengths[5] > 1024 * 24 && lengths[5] < 1025 * 24);
+        let limit = RECORD_LIMIT * RECORD_BYTES;
+        assert_eq!(lengths[1], RECORD_BYTES);
+        assert_ne!(lengths[2] % RECORD_BYTES, 0);
+        assert_eq!(lengths[3..5], [limit, limit + RECORD_BYTES]);
+        assert!(lengths[5] > limit && lengths[5] < limit + RECORD_BYTES);
         assert!(Case::of(6).input().len() < IMAGE_BYTES);
-        assert_eq!(lengths[7], ORDINARY_RECORDS * 24);
+        assert_eq!(lengths[7], ORDINARY_RECORDS * RECORD_BYTES);
     }
 
     #[test]

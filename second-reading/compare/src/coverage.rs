@@ -11,7 +11,7 @@ pub fn coverage_table(tally: &Tally) -> String {
 }
 
 fn row(tally: &Tally, clause: Clause) -> String {
-    let words = clause.words();
+    let words = clause.to_string();
     let total = tally.total(clause);
     match (clause.scope(), least(tally, clause)) {
         (Scope::OutsideJournals, _) => format!("{words:<56} {:>8}", "outside"),

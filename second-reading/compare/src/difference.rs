@@ -1,7 +1,7 @@
-//! Differences between what was expected and what was written, in words.
+//! Differences between what was expected and what was written, in the words of scribe, which shows
+//! the same bytes to whoever makes a case again.
 
-use reading::{Answer, Lines, State, IMAGE_BYTES};
-use scribe::words;
+use scribe::{words, Answer, Record, State, IMAGE_BYTES, TIMERS};
 
 use crate::case::Case;
 
@@ -19,16 +19,15 @@ pub struct Output<'a> {
 struct End<'a> {
     by: &'a str,
     image: &'a [u8; IMAGE_BYTES],
-    lines: Lines,
+    lines: [u8; 2],
 }
 
 impl<'a> Output<'a> {
     /// What was written before the end, and the end.
     fn parts(self) -> Option<(Output<'a>, End<'a>)> {
         let by = self.by;
-        let (rest, &[number, raised]) = self.bytes.split_last_chunk::<2>()?;
-        let (bytes, image) = rest.split_last_chunk::<IMAGE_BYTES>()?;
-        let lines = Lines { number, raised };
+        let (rest, &lines) = self.bytes.split_last_chunk()?;
+        let (bytes, image) = rest.split_last_chunk()?;
         Some((Output { by, bytes }, End { by, image, lines }))
     }
 }
@@ -69,7 +68,7 @@ pub(crate) fn explain_parts(
 }
 
 fn answers(case: &Case, expected: Output, found: Output) -> String {
-    let records = case.records();
+    let (records, _) = case.journal.as_chunks();
     let [wanted, written] = [expected, found].map(|output| output.bytes.as_chunks().0);
     let differing: Vec<usize> = (0..wanted.len())
         .filter(|&place| wanted[place] != written[place])
@@ -77,11 +76,10 @@ fn answers(case: &Case, expected: Output, found: Output) -> String {
     let width = 1 + expected.by.len().max(found.by.len());
     let mut told = String::new();
     for &place in differing.iter().take(TOLD) {
-        let record = &records[place];
-        told += &format!("  record {place}: {}\n", words::record(record));
+        let record = Record::unpack(&records[place]);
+        told += &format!("  record {place}: {}\n", words::record(&record));
         for (by, answers) in [(expected.by, wanted), (found.by, written)] {
-            let answer = Answer::unpack(&answers[place]);
-            let answer = words::answer(&answer, record.access.word);
+            let answer = words::answer(&Answer::unpack(&answers[place]), record.word);
             told += &format!("    {:<width$} {answer}\n", format!("{by}:"));
         }
     }
@@ -119,15 +117,25 @@ fn lines(expected: &End, found: &End) -> String {
     if expected.lines == found.lines {
         return String::new();
     }
-    let [wants, has] = [expected, found].map(|end| words::lines(&end.lines));
+    let [wants, has] = [expected, found].map(|end| raised(end.lines));
     format!("  lines: {} {wants}; {} {has}\n", expected.by, found.by)
+}
+
+/// The answer to the lines question.
+fn raised([number, lines]: [u8; 2]) -> String {
+    let up = (0..TIMERS.len()).filter(|timer| lines >> timer & 1 == 1);
+    let up: Vec<&str> = up.map(|timer| TIMERS[timer]).collect();
+    match up.as_slice() {
+        [] => format!("number {number}, no line raised"),
+        up => format!("number {number}, raised: {}", up.join(", ")),
+    }
 }
 
 #[cfg(test)]
 mod tests {
     use super::*;
     use crate::expected::expected;
-    use reading::{Slip, RECORD_BYTES};
+    use reading::{AsWritten, RECORD_BYTES};
 
     const ORDINARY: u64 = 7;
 
@@ -137,7 +145,7 @@ mod tests {
 
     fn with_byte_changed(place: impl Fn(usize) -> usize) -> String {
         let case = Case::of(ORDINARY);
-        let expected = expected(&case, Slip::None);
+        let expected = expected(&case, &AsWritten);
         let mut found = expected.output.clone();
         found[place(expected.output.len())] ^= 1;
         explain(&case, expected.by_reading(), by_probe(&found))
@@ -147,7 +155,7 @@ mod tests {
     #[test]
     fn the_same_bytes_do_not_differ() {
         let case = Case::of(ORDINARY);
-        let expected = expected(&case, Slip::None);
+        let expected = expected(&case, &AsWritten);
         let found = by_probe(&expected.output);
         assert_eq!(explain(&case, expected.by_reading(), found), None);
     }
@@ -155,9 +163,10 @@ mod tests {
     #[test]
     fn a_differing_answer_is_told_with_its_record() {
         let told = with_byte_changed(|_| 3 * RECORD_BYTES + 15);
-        let record = &Case::of(ORDINARY).records()[3];
+        let case = Case::of(ORDINARY);
+        let record = Record::unpack(&case.journal.as_chunks().0[3]);
         assert!(told.contains("case 0x0000000000000007"));
-        assert!(told.contains(&format!("record 3: {}\n", words::record(record))));
+        assert!(told.contains(&format!("record 3: {}\n", words::record(&record))));
         assert!(told.contains("\n    second reading: ") && told.contains("\n    probe:          "));
     }
 
@@ -173,9 +182,15 @@ mod tests {
     }
 
     #[test]
+    fn lines_are_named() {
+        assert_eq!(raised([5, 0]), "number 5, no line raised");
+        assert_eq!(raised([0, 0b10_0001]), "number 0, raised: CNTP, CNTHVS");
+    }
+
+    #[test]
     fn another_length_is_told() {
         let case = Case::of(ORDINARY);
-        let expected = expected(&case, Slip::None);
+        let expected = expected(&case, &AsWritten);
         let shorter = by_probe(&expected.output[..130]);
         let told = explain(&case, expected.by_reading(), shorter).expect("shorter");
         assert!(told.contains("probe wrote 130 bytes where 4930 were expected"));

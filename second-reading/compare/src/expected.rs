@@ -1,6 +1,6 @@
 //! What `probe` has to write, as the second reading has it.
 
-use reading::{Reading, Record, Slip, Tally, RECORD_BYTES};
+use reading::{Paper, Reading, Record, Tally, RECORD_BYTES};
 
 use crate::case::{Case, Kind};
 use crate::difference::Output;
@@ -38,11 +38,11 @@ impl Expected {
 
 /// The answers, the final state, and the number and the lines at the last record's count.
 /// Under 128 bytes of input nothing is written.
-pub fn expected(case: &Case, slip: Slip) -> Expected {
+pub fn expected(case: &Case, paper: &dyn Paper) -> Expected {
     if case.kind == Kind::ShortImage {
         return Expected::default();
     }
-    let mut reading = Reading::slipped(case.state, slip);
+    let mut reading = Reading::of(paper, case.state);
     let mut answers = vec![0; case.journal.len()];
     let served = match reading.run(&case.journal, &mut answers) {
         0 => &case.journal[..],
@@ -63,13 +63,15 @@ fn last_count(journal: &[u8]) -> u64 {
 #[cfg(test)]
 mod tests {
     use super::*;
+    use reading::{AsWritten, RECORD_LIMIT};
 
     #[test]
     fn each_kind_has_the_length_of_its_output() {
         let lengths: Vec<usize> = (0..8)
-            .map(|seed| expected(&Case::of(seed), Slip::None).output.len())
+            .map(|seed| expected(&Case::of(seed), &AsWritten).output.len())
             .collect();
-        let full = 1024 * 24 + 130;
-        assert_eq!(lengths, [130, 154, 130, full, 130, 130, 0, 200 * 24 + 130]);
+        let with = |records| records * RECORD_BYTES + 130;
+        let [none, one, full, ordinary] = [0, 1, RECORD_LIMIT, 200].map(with);
+        assert_eq!(lengths, [none, one, none, full, none, none, 0, ordinary]);
     }
 }

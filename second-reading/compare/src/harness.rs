@@ -3,7 +3,7 @@
 
 use std::process::ExitCode;
 
-use reading::Slip;
+use slips::Slip;
 
 /// The exit code of a comparison; a failure is told first.
 pub fn ended(compared: Result<(), String>) -> ExitCode {
@@ -36,13 +36,14 @@ impl Least {
 }
 
 /// Every slip has to make a difference; `catches` has the place of the first case that shows one.
-pub fn catch_each(slips: &[Slip], catches: impl Fn(Slip) -> Option<usize>) -> Result<(), String> {
+pub fn catch_each(slips: &[Slip], catches: impl Fn(&Slip) -> Option<usize>) -> Result<(), String> {
     println!("{} slips, and the case that catches each", slips.len());
     let mut missed = Vec::new();
-    for &slip in slips {
+    for slip in slips {
+        let words = slip.to_string();
         match catches(slip) {
-            Some(place) => println!("{slip:<72} case {place:>4}", slip = slip.to_string()),
-            None => missed.push(slip.to_string()),
+            Some(place) => println!("{words:<72} case {place:>4}"),
+            None => missed.push(words),
         }
     }
     match missed.as_slice() {
@@ -68,11 +69,12 @@ mod tests {
 
     #[test]
     fn a_slip_that_makes_no_difference_is_named() {
-        let slips = [Slip::LimitOneLess, Slip::LimitOneMore];
+        let slips = slips::of_the_buffer();
+        let words: Vec<String> = slips.iter().map(Slip::to_string).collect();
         assert_eq!(catch_each(&slips, |_| Some(3)), Ok(()));
-        let missed = catch_each(&slips, |slip| (slip == slips[0]).then_some(3));
-        assert!(missed.is_err_and(|missed| {
-            missed.contains(&slips[1].to_string()) && !missed.contains(&slips[0].to_string())
-        }));
+        let missed = catch_each(&slips, |slip| (slip.to_string() != words[1]).then_some(3));
+        assert!(
+            missed.is_err_and(|missed| missed.contains(&words[1]) && !missed.contains(&words[0]))
+        );
     }
 }

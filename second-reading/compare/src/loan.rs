@@ -1,6 +1,6 @@
 //! A loan: the journal of a case with a lent buffer that need not be as long.
 
-use reading::{Clause, Reading, Slip, RECORD_BYTES};
+use reading::{Clause, Paper, Reading, RECORD_BYTES};
 
 use crate::case::{Case, Kind};
 use crate::difference::{explain_parts, Output};
@@ -85,9 +85,9 @@ impl Loan {
     }
 
     /// The number of the run, every lent byte, and the end of any output.
-    pub(crate) fn expected(&self, slip: Slip) -> Expected {
+    pub(crate) fn expected(&self, paper: &dyn Paper) -> Expected {
         let journal = &self.case.journal[..];
-        let mut reading = Reading::slipped(self.case.state, slip);
+        let mut reading = Reading::of(paper, self.case.state);
         let mut buffer = vec![UNTOUCHED; self.bytes];
         let number = reading.run(journal, &mut buffer);
         let served = if number == 0 { journal } else { &[] };
@@ -123,13 +123,14 @@ fn number_and_buffer(expected: Output, found: Output) -> String {
 #[cfg(test)]
 mod tests {
     use super::*;
+    use reading::AsWritten;
 
     const EMPTY_JOURNAL: u64 = 0;
     const ONE_RECORD: u64 = 1;
 
     fn expected(lent: Lent) -> Vec<u8> {
         let loan = Loan::of(ONE_RECORD, lent).expect("a record has room on both sides");
-        loan.expected(Slip::None).output
+        loan.expected(&AsWritten).output
     }
 
     #[test]
@@ -137,27 +138,28 @@ mod tests {
         let lengths = [
             (Lent::Empty, 0),
             (Lent::OneRecordShort, 0),
-            (Lent::OneByteShort, 23),
+            (Lent::OneByteShort, RECORD_BYTES - 1),
         ];
         for (lent, bytes) in lengths {
             let output = expected(lent);
             assert_eq!(output.len(), 1 + bytes + 130, "{lent:?}");
             assert_eq!(output[0], 8, "{lent:?}");
-            assert_eq!(output[1..][..bytes], [UNTOUCHED; 24][..bytes], "{lent:?}");
+            let lent_bytes = &output[1..][..bytes];
+            assert!(lent_bytes.iter().all(|&byte| byte == UNTOUCHED), "{lent:?}");
         }
     }
 
     #[test]
     fn a_long_buffer_is_touched_up_to_the_last_answer() {
         let lengths = [
-            (Lent::AsLong, 24),
-            (Lent::OneByteLonger, 25),
-            (Lent::MuchLonger, 1024),
+            (Lent::AsLong, RECORD_BYTES),
+            (Lent::OneByteLonger, RECORD_BYTES + 1),
+            (Lent::MuchLonger, RECORD_BYTES + 1000),
         ];
         for (lent, bytes) in lengths {
             let output = expected(lent);
             assert_eq!(output.len(), 1 + bytes + 130, "{lent:?}");
-            let (answer, rest) = output[1..][..bytes].split_at(24);
+            let (answer, rest) = output[1..][..bytes].split_at(RECORD_BYTES);
             assert_eq!(output[0], 0, "{lent:?}");
             assert!(answer.contains(&0), "{lent:?}");
             assert!(rest.iter().all(|&byte| byte == UNTOUCHED), "{lent:?}");

@@ -2,7 +2,8 @@
 
 use std::collections::BTreeMap;
 
-use reading::{Clause, Slip, Tally};
+use reading::{AsWritten, Clause, Tally};
+use slips::Slip;
 
 use crate::campaign::all_agree;
 use crate::loan::{Lent, Loan};
@@ -38,7 +39,7 @@ impl Loans {
         let mut met = Met::default();
         let mut told = Vec::new();
         for (loan, ran) in &self.captured {
-            let expected = loan.expected(Slip::None);
+            let expected = loan.expected(&AsWritten);
             told.extend(loan.difference(&expected, ran));
             met.tallies
                 .entry(loan.lent)
@@ -50,10 +51,10 @@ impl Loans {
     }
 
     /// The place of the first loan that tells a slipped reading from the bench.
-    pub fn catches(&self, slip: Slip) -> Option<usize> {
+    pub fn catches(&self, slip: &Slip) -> Option<usize> {
         self.captured
             .iter()
-            .position(|(loan, ran)| loan.expected(slip).output != ran.output)
+            .position(|(loan, ran)| loan.expected(slip.paper()).output != ran.output)
     }
 }
 
@@ -69,7 +70,7 @@ impl Met {
         self.counts()
             .map(|(lent, clause, count)| {
                 let lent = format!("{lent:?}");
-                format!("{lent:<16} {:<44} {count:>6}\n", clause.words())
+                format!("{lent:<16} {:<44} {count:>6}\n", clause.to_string())
             })
             .collect()
     }
@@ -100,7 +101,7 @@ mod tests {
         let mut met = Met::default();
         assert_eq!(met.missing().len(), 19);
         let loan = Loan::of(1, Lent::OneByteShort).expect("a record has room for it");
-        let tally = loan.expected(Slip::None).tally;
+        let tally = loan.expected(&AsWritten).tally;
         met.tallies.insert(Lent::OneByteShort, tally);
         let missing = met.missing();
         assert_eq!(missing.len(), 18);

@@ -5,7 +5,6 @@ use std::process::ExitCode;
 use std::time::Instant;
 
 use compare::{catch_each, coverage_table, ended, fresh_seed, Campaign, Least, Program, KINDS};
-use reading::Slip;
 
 const FIXED_SEED: u64 = 0x5EC0_4D12_EAD1_4600;
 const CASES: u64 = 38 * KINDS;
@@ -22,11 +21,7 @@ fn compare_all() -> Result<(), String> {
     let probe = Program::probe()?;
     let fixed = stretch(&probe, "fixed", FIXED_SEED)?;
     stretch(&probe, "fresh", fresh_seed()?)?;
-    let slips: Vec<Slip> = Slip::all()
-        .into_iter()
-        .filter(|slip| !slip.is_of_the_buffer())
-        .collect();
-    catch_each(&slips, |slip| fixed.catches(slip))
+    catch_each(&slips::of_journals(), |slip| fixed.catches(slip))
 }
 
 fn stretch(probe: &Program, name: &str, seed: u64) -> Result<Campaign, String> {

@@ -6,7 +6,6 @@ use std::process::ExitCode;
 use std::time::Instant;
 
 use compare::{catch_each, ended, fresh_seed, Loans, Program, KINDS};
-use reading::Slip;
 
 const FIXED_SEED: u64 = 0xB0FF_E2D0_1E4D_5C00;
 const CASES: u64 = 2 * KINDS;
@@ -19,11 +18,7 @@ fn compare_all() -> Result<(), String> {
     let bench = Program::bench("lend")?;
     let fixed = stretch(&bench, "fixed", FIXED_SEED)?;
     stretch(&bench, "fresh", fresh_seed()?)?;
-    let slips: Vec<Slip> = Slip::all()
-        .into_iter()
-        .filter(Slip::is_of_the_buffer)
-        .collect();
-    catch_each(&slips, |slip| fixed.catches(slip))
+    catch_each(&slips::of_the_buffer(), |slip| fixed.catches(slip))
 }
 
 fn stretch(bench: &Program, name: &str, seed: u64) -> Result<Loans, String> {

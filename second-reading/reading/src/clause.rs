@@ -1,56 +1,34 @@
 //! The clauses of the paper: each letter, level, refusal and value rule that can decide.
 
-use crate::register::Direction::{self, Mrs, Msr};
-use crate::register::Register::{self, *};
-use crate::state::TimerName::{self, *};
-use crate::tally::Cell;
+use std::fmt;
 
-/// The ways in which a clause has to be met before it counts as met.
-#[derive(Clone, Copy, Debug, PartialEq, Eq)]
-pub enum Scope {
-    /// Once, anyhow.
-    Once,
-    /// By each of these registers in each of these directions.
-    Calls(&'static [Register], &'static [Direction]),
-    /// For each of these timers.
-    Timers(&'static [TimerName]),
-    /// No journal given to a program can reach it: it takes a lent buffer, or a level that no
-    /// record holds.
-    OutsideJournals,
-}
+use crate::instruction::Direction::{self, Mrs, Msr};
+use crate::record::RECORD_LIMIT;
+use crate::register::Part::Tval;
+use crate::register::Register::*;
+use crate::scope::Scope;
+use crate::state::TimerName;
 
-impl Scope {
-    /// Each way by itself.
-    pub fn cells(self) -> Vec<Cell> {
-        match self {
-            Scope::Once => vec![Cell::Whole],
-            Scope::Calls(registers, directions) => registers
-                .iter()
-                .flat_map(|&register| directions.iter().map(move |&d| Cell::Call(register, d)))
-                .collect(),
-            Scope::Timers(timers) => timers.iter().copied().map(Cell::Timer).collect(),
-            Scope::OutsideJournals => Vec::new(),
-        }
-    }
-}
-
-const READ: &[Direction] = &[Mrs];
-const WRITE: &[Direction] = &[Msr];
-const BOTH: &[Direction] = &[Mrs, Msr];
-
-const CNTP: Scope = Scope::Calls(&[CntpTval, CntpCtl, CntpCval], BOTH);
-const CNTV: Scope = Scope::Calls(&[CntvTval, CntvCtl, CntvCval], BOTH);
-const CNTPCT: Scope = Scope::Calls(&[Cntpct, Cntpctss], READ);
-const CNTVCT: Scope = Scope::Calls(&[Cntvct, Cntvctss], READ);
-const CNTVOFF: Scope = Scope::Calls(&[Cntvoff], BOTH);
-const CNTHP: Scope = Scope::Calls(&[CnthpTval, CnthpCtl, CnthpCval], BOTH);
-const CNTHVS: Scope = Scope::Calls(&[CnthvsTval, CnthvsCtl, CnthvsCval], BOTH);
-const CNTP_TVAL: Scope = Scope::Calls(&[CntpTval], BOTH);
-const CNTV_TVAL: Scope = Scope::Calls(&[CntvTval], BOTH);
+const CNTP: Scope = Scope::Parts(Cntp);
+const CNTV: Scope = Scope::Parts(Cntv);
+const CNTPCT: Scope = Scope::Calls(&[Cntpct, Cntpctss], &[Mrs]);
+const CNTVCT: Scope = Scope::Calls(&[Cntvct, Cntvctss], &[Mrs]);
+const SS_FORMS: Scope = Scope::Calls(&[Cntpctss, Cntvctss], &Direction::ALL);
+const COUNTERS: Scope = Scope::Calls(&[Cntpct, Cntvct, Cntpctss, Cntvctss], &[Msr]);
+const CNTVOFF: Scope = Scope::Calls(&[Cntvoff], &Direction::ALL);
+const CNTHP: Scope = Scope::Parts(Cnthp);
+const CNTHVS: Scope = Scope::Parts(Cnthvs);
+const CNTP_TVAL: Scope = Scope::Calls(&[Cntp(Tval)], &Direction::ALL);
+const CNTV_TVAL: Scope = Scope::Calls(&[Cntv(Tval)], &Direction::ALL);
 const SIX: Scope = Scope::Timers(&TimerName::ALL);
-const PHYSICAL_FOUR: Scope = Scope::Timers(&[Cnthp, Cnthv, Cnthps, Cnthvs]);
-const ONLY_CNTP: Scope = Scope::Timers(&[Cntp]);
-const ONLY_CNTV: Scope = Scope::Timers(&[Cntv]);
+const OTHERS: Scope = Scope::Timers(&[
+    TimerName::Cnthp,
+    TimerName::Cnthv,
+    TimerName::Cnthps,
+    TimerName::Cnthvs,
+]);
+const ONLY_CNTP: Scope = Scope::Timers(&[TimerName::Cntp]);
+const ONLY_CNTV: Scope = Scope::Timers(&[TimerName::Cntv]);
 
 macro_rules! clauses {
     ($($name:ident $scope:expr, $words:literal;)*) => {
@@ -61,21 +39,37 @@ macro_rules! clauses {
         impl Clause {
             pub const ALL: &'static [Clause] = &[$(Clause::$name,)*];
 
-            /// The clause in words close to the paper's.
-            pub fn words(self) -> &'static str {
-                match self { $(Clause::$name => $words,)* }
-            }
-
             pub fn scope(self) -> Scope {
                 match self { $(Clause::$name => $scope,)* }
+            }
+        }
+
+        /// The clause in words close to the paper's.
+        impl fmt::Display for Clause {
+            fn fmt(&self, f: &mut fmt::Formatter<'_>) -> fmt::Result {
+                match self { $(Clause::$name => write!(f, $words),)* }
             }
         }
     };
 }
 
+/// A number as the paper writes it, with a comma before the last three digits.
+pub struct InPrint(pub usize);
+
+impl fmt::Display for InPrint {
+    fn fmt(&self, f: &mut fmt::Formatter<'_>) -> fmt::Result {
+        match self.0 {
+            small @ ..1000 => write!(f, "{small}"),
+            large => write!(f, "{},{:03}", large / 1000, large % 1000),
+        }
+    }
+}
+
+const LIMIT: InPrint = InPrint(RECORD_LIMIT);
+
 clauses! {
     JournalRagged Scope::Once, "7: not a whole number of records";
-    JournalTooLong Scope::Once, "7: over 1,024 records";
+    JournalTooLong Scope::Once, "7: over {LIMIT} records";
     BufferShort Scope::OutsideJournals, "8: answer buffer shorter than the journal";
     RunDone Scope::Once, "0: the run not refused";
     ReservedBit Scope::Once, "6: reserved bit set";
@@ -119,9 +113,8 @@ clauses! {
     CntvEl2 CNTV, "CNTV EL2: CNTV";
     CntvEl3 CNTV, "CNTV EL3: CNTV";
 
-    SsWithoutEcv Scope::Calls(&[Cntpctss, Cntvctss], BOTH), "SS forms Undefined without ECV";
-    CounterWritten Scope::Calls(&[Cntpct, Cntvct, Cntpctss, Cntvctss], WRITE),
-        "counters Undefined for MSR";
+    SsWithoutEcv SS_FORMS, "SS forms Undefined without ECV";
+    CounterWritten COUNTERS, "counters Undefined for MSR";
 
     CntpctEl0AToEl1 CNTPCT, "CNTPCT EL0 (a): EL1";
     CntpctEl0AToEl2 CNTPCT, "CNTPCT EL0 (a): EL2 on and TGE 1, EL2";
@@ -178,7 +171,7 @@ clauses! {
     CountCntpEl3 CNTP_TVAL, "count for CNTP at EL3: physical";
     CountCntv CNTV_TVAL, "count for CNTV, EL2 on: less CNTVOFF";
     CountCntvEl2Off CNTV_TVAL, "count for CNTV, EL2 not on: less CNTVOFF";
-    CountPhysical PHYSICAL_FOUR, "count for the other timers: physical";
+    CountPhysical OTHERS, "count for the other timers: physical";
 
     TvalUnknown SIX, "TVAL read, ENABLE 0: 64 bits unknown";
     TvalRead SIX, "TVAL read, ENABLE 1: CVAL less the count";
@@ -193,19 +186,13 @@ clauses! {
     CvalWritten SIX, "CVAL written whole";
     CntvoffRead Scope::Once, "CNTVOFF read whole";
     CntvoffWritten Scope::Once, "CNTVOFF written whole";
-    Rt31Read Scope::Calls(&Register::ALL, READ), "MRS with Rt 31 answers like any other";
-    Rt31Written Scope::Calls(
-        &[
-            CntpTval, CntpCtl, CntpCval, CntvTval, CntvCtl, CntvCval, Cntvoff, CnthpTval, CnthpCtl,
-            CnthpCval, CnthvsTval, CnthvsCtl, CnthvsCval,
-        ],
-        WRITE,
-    ), "MSR with Rt 31 writes 0";
+    Rt31Read Scope::Every(Mrs), "MRS with Rt 31 answers like any other";
+    Rt31Written Scope::Every(Msr), "MSR with Rt 31 writes 0";
 
     MetCountCntv ONLY_CNTV, "met, CNTV: physical less CNTVOFF";
     MetCountHouseRule ONLY_CNTP, "met, CNTP with offset on: less CNTPOFF (house rule)";
     MetCountCntp ONLY_CNTP, "met, CNTP with offset not on: physical";
-    MetCountPhysical PHYSICAL_FOUR, "met, other timers: physical";
+    MetCountPhysical OTHERS, "met, other timers: physical";
 
     LinesE2hWithoutVhe Scope::Once, "lines, 5: E2H 1 without VHE";
     LinesEel2WithoutSel2 Scope::Once, "lines, 5: EEL2 1 without SEL2";
@@ -219,75 +206,13 @@ clauses! {
     LineBelowCval SIX, "line: ENABLE 1 and the count 1 below CVAL: not met";
 }
 
-impl Clause {
-    /// The clauses whose absence a [`Slip`](crate::Slip) can play.
-    pub const GATES: &'static [Clause] = &[
-        Clause::JournalRagged,
-        Clause::BufferShort,
-        Clause::ReservedBit,
-        Clause::E2hWithoutVhe,
-        Clause::Eel2WithoutSel2,
-        Clause::EcvenWithoutEcv,
-        Clause::CnthctlWithoutEcv,
-        Clause::El2NotOn,
-        Clause::El1UnderTge,
-        Clause::CntpEl0AToEl1,
-        Clause::CntpEl0AToEl2,
-        Clause::CntpEl0B,
-        Clause::CntpEl0C,
-        Clause::CntpEl0D,
-        Clause::CntpEl0E,
-        Clause::CntpEl0F,
-        Clause::CntpEl1Pcen,
-        Clause::CntpEl1Pten,
-        Clause::CntpEl2Secure,
-        Clause::CntpEl2NotSecure,
-        Clause::CntvEl0AToEl1,
-        Clause::CntvEl0AToEl2,
-        Clause::CntvEl0B,
-        Clause::CntvEl0C,
-        Clause::CntvEl0D,
-        Clause::CntvEl0E,
-        Clause::CntvEl1Tvt,
-        Clause::CntvEl2Secure,
-        Clause::CntvEl2NotSecure,
-        Clause::SsWithoutEcv,
-        Clause::CounterWritten,
-        Clause::CntpctEl0AToEl1,
-        Clause::CntpctEl0AToEl2,
-        Clause::CntpctEl0B,
-        Clause::CntpctEl0C,
-        Clause::CntpctEl0D,
-        Clause::CntpctEl1E2h0,
-        Clause::CntpctEl1E2h1,
-        Clause::CntpctLessOffsetEl0,
-        Clause::CntpctLessOffsetEl1,
-        Clause::CntvctEl0AToEl1,
-        Clause::CntvctEl0AToEl2,
-        Clause::CntvctEl0B,
-        Clause::CntvctEl0C,
-        Clause::CntvctEl1Tvct,
-        Clause::CntvctHost,
-        Clause::CntvctE2h,
-        Clause::CntvoffEl0,
-        Clause::CntvoffEl1,
-        Clause::CnthpEl0,
-        Clause::CnthpEl1,
-        Clause::CnthvsMissing,
-        Clause::CnthvsEl0,
-        Clause::CnthvsEl1,
-        Clause::CnthvsEl2NotSecure,
-        Clause::CnthvsEl3Eel2,
-        Clause::CountCntpLessOffsetEl0,
-        Clause::CountCntpLessOffsetEl1,
-        Clause::TvalUnknown,
-        Clause::CtlUnknown,
-        Clause::Rt31Written,
-        Clause::MetCountHouseRule,
-        Clause::LinesE2hWithoutVhe,
-        Clause::LinesEel2WithoutSel2,
-        Clause::LinesEcvenWithoutEcv,
-        Clause::LinesCnthctlWithoutEcv,
-        Clause::LineMasked,
-    ];
+#[cfg(test)]
+mod tests {
+    use super::*;
+
+    #[test]
+    fn a_number_is_printed_as_the_paper_prints_it() {
+        let printed = [24, 999, 1000, 1024, 12_345].map(|number| InPrint(number).to_string());
+        assert_eq!(printed, ["24", "999", "1,000", "1,024", "12,345"]);
+    }
 }

@@ -1,9 +1,9 @@
-//! The lines question: which timers raise their line.
+//! Document 01, 'Timer met' and 'What the desk answers': the lines question.
 
-use crate::clause::Clause;
+use crate::clause::Clause::*;
+use crate::reading::Reading;
 use crate::state::TimerName;
 use crate::tally::Cell;
-use crate::words::Reading;
 
 /// The number of the lines question, and a bit for each raised line: bit 0 is CNTP, then in
 /// the paper's order.
@@ -13,13 +13,13 @@ pub struct Lines {
     pub raised: u8,
 }
 
-impl Reading {
-    /// The lines at a physical count. The question has no level.
+impl Reading<'_> {
+    /// The lines at a physical count. Refused, no line is raised.
     pub fn lines(&mut self, count: u64) -> Lines {
-        if let Some(ground) = self.lines_ground() {
-            self.note(ground, Cell::Whole);
+        if let Err(refusal) = self.possible_for_lines() {
+            self.note(refusal.clause, Cell::Whole);
             return Lines {
-                number: 5,
+                number: refusal.number,
                 raised: 0,
             };
         }
@@ -30,23 +30,20 @@ impl Reading {
         Lines { number: 0, raised }
     }
 
-    /// A line is raised if the timer is met and IMASK is 0.
-    fn line(&mut self, timer: TimerName, physical: u64) -> bool {
-        let count = self.count_for_met(timer, physical);
-        self.note_edge(timer, count, Clause::LineAtCval, Clause::LineBelowCval);
-        let kept = *self.state.timer(timer);
-        let clause = if !self.met(timer, count) {
-            if kept.enable {
-                Clause::LineNotMet
-            } else {
-                Clause::LineDisabled
-            }
-        } else if kept.imask && self.stands(Clause::LineMasked) {
-            Clause::LineMasked
-        } else {
-            Clause::LineRaised
-        };
-        self.note(clause, timer);
-        clause == Clause::LineRaised
+    /// A line is raised if met and IMASK is 0.
+    fn line(&mut self, name: TimerName, physical: u64) -> bool {
+        let timer = *self.state.timer(name);
+        let count = self.count_for_met(name, physical);
+        self.note_edge(name, count, LineAtCval, LineBelowCval);
+        let met = self.paper.met(&timer, count);
+        self.decide(
+            name,
+            &[
+                (LineDisabled, !met && !timer.enable, false),
+                (LineNotMet, !met, false),
+                (LineMasked, timer.imask, false),
+            ],
+            (LineRaised, true),
+        )
     }
 }

@@ -1,44 +1,37 @@
-//! The state of the machine the paper models.
+//! Document 01, 'The machine we model': its state.
 
-/// An exception level that exists.
-#[derive(Clone, Copy, Debug, PartialEq, Eq, PartialOrd, Ord)]
-pub enum Level {
-    El0,
-    El1,
-    El2,
-    El3,
+use crate::listed::listed;
+
+listed! {
+    /// An exception level that exists.
+    pub enum Level {
+        El0,
+        El1,
+        El2,
+        El3,
+    }
 }
 
 impl Level {
-    pub const ALL: [Level; 4] = [Level::El0, Level::El1, Level::El2, Level::El3];
-
     /// The level of that number, if there is one.
     pub fn of(number: u8) -> Option<Level> {
         Level::ALL.get(usize::from(number)).copied()
     }
 }
 
-/// The six timers, in the paper's order.
-#[derive(Clone, Copy, Debug, PartialEq, Eq, PartialOrd, Ord)]
-pub enum TimerName {
-    Cntp,
-    Cntv,
-    Cnthp,
-    Cnthv,
-    Cnthps,
-    Cnthvs,
+listed! {
+    /// The six timers, in the paper's order.
+    pub enum TimerName {
+        Cntp,
+        Cntv,
+        Cnthp,
+        Cnthv,
+        Cnthps,
+        Cnthvs,
+    }
 }
 
 impl TimerName {
-    pub const ALL: [TimerName; 6] = [
-        TimerName::Cntp,
-        TimerName::Cntv,
-        TimerName::Cnthp,
-        TimerName::Cnthv,
-        TimerName::Cnthps,
-        TimerName::Cnthvs,
-    ];
-
     pub fn name(self) -> &'static str {
         match self {
             TimerName::Cntp => "CNTP",
@@ -74,7 +67,7 @@ pub struct State {
     pub cnthctl: u32,
     pub cntvoff: u64,
     pub cntpoff: u64,
-    pub timers: [Timer; 6],
+    pub timers: [Timer; TimerName::ALL.len()],
 }
 
 impl State {

@@ -3,7 +3,8 @@
 use std::collections::BTreeMap;
 
 use crate::clause::Clause;
-use crate::register::{Direction, Instruction, Register};
+use crate::instruction::{Direction, Instruction};
+use crate::register::Register;
 use crate::state::TimerName;
 
 /// Where a clause decided.

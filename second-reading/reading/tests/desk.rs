@@ -1,6 +1,6 @@
 //! Refusals, their order, and the edges of the journal.
 
-use reading::{Access, Answer, Clause, Reading, Record, Slip, State, RECORD_BYTES, RECORD_LIMIT};
+use reading::{Access, Answer, Reading, Record, State, RECORD_BYTES, RECORD_LIMIT};
 
 const CNTVCT: u32 = 0xD53B_E040;
 const NO_NAME: u32 = 0xD53B_E000;
@@ -236,15 +236,16 @@ fn a_refused_record_does_not_stop_the_run() {
 
 #[test]
 fn the_edges_of_the_journal() {
+    assert_eq!((RECORD_BYTES, RECORD_LIMIT), (24, 1024));
     for (length, number) in [
         (0, 0),
         (1, 7),
-        (23, 7),
-        (24, 0),
-        (25, 7),
-        (RECORD_LIMIT * 24, 0),
-        (RECORD_LIMIT * 24 + 1, 7),
-        ((RECORD_LIMIT + 1) * 24, 7),
+        (RECORD_BYTES - 1, 7),
+        (RECORD_BYTES, 0),
+        (RECORD_BYTES + 1, 7),
+        (RECORD_LIMIT * RECORD_BYTES, 0),
+        (RECORD_LIMIT * RECORD_BYTES + 1, 7),
+        ((RECORD_LIMIT + 1) * RECORD_BYTES, 7),
     ] {
         let (found, answers) = run_of(&vec![0; length]);
         assert_eq!(found, number, "{length} bytes");
@@ -255,8 +256,8 @@ fn the_edges_of_the_journal() {
 
 #[test]
 fn a_short_buffer_is_refused_with_8_and_stays() {
-    let journal = [0; 48];
-    for length in [0, 24, 47] {
+    let journal = [0; 2 * RECORD_BYTES];
+    for length in [0, RECORD_BYTES, journal.len() - 1] {
         let mut answers = vec![0xEE; length];
         let number = Reading::new(State::bench()).run(&journal, &mut answers);
         assert_eq!(number, 8);
@@ -264,17 +265,8 @@ fn a_short_buffer_is_refused_with_8_and_stays() {
     }
     let mut none = [];
     assert_eq!(
-        Reading::new(State::bench()).run(&[0; 25], &mut none),
+        Reading::new(State::bench()).run(&[0; RECORD_BYTES + 1], &mut none),
         7,
         "7 before 8"
     );
-}
-
-#[test]
-fn every_gate_left_out_and_every_slip_is_a_different_one() {
-    let slips = Slip::all();
-    for (place, slip) in slips.iter().enumerate() {
-        assert!(!slips[..place].contains(slip), "{slip} stands twice");
-    }
-    assert!(slips.len() > Clause::GATES.len() + 25);
 }

@@ -1,9 +1,9 @@
 //! The rules that the readings from the bench do not touch.
 
-use reading::{Access, Answer, Direction, Instruction, Reading, Register, State, TimerName};
+use reading::{Access, Answer, Direction, Instruction, Part, Reading, Register, State, TimerName};
 
 struct Bench {
-    reading: Reading,
+    reading: Reading<'static>,
 }
 
 impl Bench {
@@ -68,19 +68,19 @@ fn host(ns: bool) -> State {
 #[test]
 fn cntpoff_counts_below_el2_and_status_follows_the_house_rule_everywhere() {
     let mut bench = Bench::of(with_offset());
-    bench.write(Register::CntpCtl, 1, 1, 0);
-    bench.write(Register::CntpTval, 1, 50, 1000);
+    bench.write(Register::Cntp(Part::Ctl), 1, 1, 0);
+    bench.write(Register::Cntp(Part::Tval), 1, 50, 1000);
     assert_eq!(bench.reading.state.timer(TimerName::Cntp).cval, 950);
     assert_eq!(bench.read(Register::Cntpct, 0, 1000).value, 900);
-    assert_eq!(bench.read(Register::CntpTval, 0, 1000).value, 50);
+    assert_eq!(bench.read(Register::Cntp(Part::Tval), 0, 1000).value, 50);
     for level in [2, 3] {
         assert_eq!(bench.read(Register::Cntpct, level, 1000).value, 1000);
         assert_eq!(
-            bench.read(Register::CntpTval, level, 1000).value as i64,
+            bench.read(Register::Cntp(Part::Tval), level, 1000).value as i64,
             -50
         );
-        assert_eq!(bench.read(Register::CntpCtl, level, 1049).value, 1);
-        assert_eq!(bench.read(Register::CntpCtl, level, 1050).value, 5);
+        assert_eq!(bench.read(Register::Cntp(Part::Ctl), level, 1049).value, 1);
+        assert_eq!(bench.read(Register::Cntp(Part::Ctl), level, 1050).value, 5);
     }
     assert_eq!(bench.reading.lines(1049).raised, 0);
     assert_eq!(bench.reading.lines(1050).raised, 1);
@@ -94,8 +94,8 @@ fn a_host_is_redirected_by_its_security() {
     ] {
         for level in [0, 2] {
             let mut bench = Bench::of(host(ns));
-            bench.write(Register::CntpCval, level, 11, 0);
-            bench.write(Register::CntvTval, level, 12, 5);
+            bench.write(Register::Cntp(Part::Cval), level, 11, 0);
+            bench.write(Register::Cntv(Part::Tval), level, 12, 5);
             let state = bench.reading.state;
             assert_eq!(state.timer(physical).cval, 11);
             assert_eq!(state.timer(virtual_timer).cval, 17);
@@ -113,17 +113,17 @@ fn cntvoff_counts_where_el2_is_not_on() {
     });
     assert_eq!(bench.read(Register::Cntvct, 1, 1000).value, 600);
     assert_eq!(bench.read(Register::Cntvct, 3, 1000).value, 600);
-    bench.write(Register::CntvTval, 1, 0, 1000);
+    bench.write(Register::Cntv(Part::Tval), 1, 0, 1000);
     assert_eq!(bench.reading.state.timer(TimerName::Cntv).cval, 600);
 }
 
 #[test]
 fn the_count_is_compared_unsigned() {
     let mut bench = Bench::of(State::bench());
-    bench.write(Register::CntvCtl, 1, 1, 0);
-    bench.write(Register::CntvCval, 1, 1 << 63, 0);
-    assert_eq!(bench.read(Register::CntvCtl, 1, 400).value, 1);
-    assert_eq!(bench.read(Register::CntvCtl, 1, 399).value, 5);
+    bench.write(Register::Cntv(Part::Ctl), 1, 1, 0);
+    bench.write(Register::Cntv(Part::Cval), 1, 1 << 63, 0);
+    assert_eq!(bench.read(Register::Cntv(Part::Ctl), 1, 400).value, 1);
+    assert_eq!(bench.read(Register::Cntv(Part::Ctl), 1, 399).value, 5);
 }
 
 #[test]
@@ -167,7 +167,7 @@ fn rt_31_reads_like_any_other_and_writes_zero() {
 #[test]
 fn a_write_changes_one_register_and_answers_zero() {
     let mut bench = Bench::of(State::bench());
-    let answer = bench.write(Register::CnthpCtl, 3, u64::MAX, 7);
+    let answer = bench.write(Register::Cnthp(Part::Ctl), 3, u64::MAX, 7);
     assert_eq!(
         (answer.number, answer.rt, answer.value, answer.mask),
         (0, 9, 0, 0)
@@ -198,7 +198,11 @@ fn the_secure_virtual_timer_needs_its_features_and_eel2() {
         eel2: true,
         ..State::bench()
     };
-    let number = |state, level| Bench::of(state).read(Register::CnthvsCval, level, 0).number;
+    let number = |state, level| {
+        Bench::of(state)
+            .read(Register::Cnthvs(Part::Cval), level, 0)
+            .number
+    };
     assert_eq!(
         [0, 1, 2, 3].map(|level| number(secure, level)),
         [1, 1, 0, 0]

@@ -6,7 +6,7 @@ use std::path::Path;
 use std::process::ExitCode;
 
 use compare::{expected, parse_seed, Captured, Case, Program};
-use reading::Slip;
+use reading::AsWritten;
 
 const HELP: &str = "\
 again: one case again
@@ -61,7 +61,7 @@ fn again(seed: u64, folder: Option<&Path>) -> Result<Option<String>, String> {
     let (case, ran) = (&captured.case, &captured.ran);
     let records = case.records().len();
     println!("case {seed:#018X} ({:?}), {records} records", case.kind);
-    let expected = expected(case, Slip::None);
+    let expected = expected(case, &AsWritten);
     if let Some(folder) = folder {
         save(folder, case, &expected.output, &ran.output)
             .map_err(|error| format!("{}: {error}", folder.display()))?;

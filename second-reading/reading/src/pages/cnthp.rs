@@ -1,17 +1,20 @@
-//! CNTHP_TVAL_EL2, CNTHP_CTL_EL2 and CNTHP_CVAL_EL2 (document 001).
+//! Document 01, 'Who may touch what': CNTHP (source document 001).
 
-use crate::clause::Clause;
-use crate::ruling::Ruling;
-use crate::state::{Level, TimerName};
-use crate::words::Reading;
+use crate::clause::Clause::*;
+use crate::pages::Ruling;
+use crate::pages::Way::{Allowed, Undefined};
+use crate::reading::Reading;
+use crate::state::Level::{self, *};
+use crate::state::TimerName::{self, Cnthp};
 
-impl Reading {
+impl Reading<'_> {
+    /// Undefined at EL0 and EL1, allowed at EL2 and EL3.
     pub(crate) fn cnthp(&self, level: Level) -> Ruling<TimerName> {
-        match level {
-            Level::El0 if self.stands(Clause::CnthpEl0) => Ruling::undefined(Clause::CnthpEl0),
-            Level::El1 if self.stands(Clause::CnthpEl1) => Ruling::undefined(Clause::CnthpEl1),
-            Level::El3 => Ruling::open(Clause::CnthpEl3, TimerName::Cnthp),
-            _ => Ruling::open(Clause::CnthpEl2, TimerName::Cnthp),
-        }
+        self.first_that_fits(&[
+            (CnthpEl0, level == El0, Undefined),
+            (CnthpEl1, level == El1, Undefined),
+            (CnthpEl2, level == El2, Allowed(Cnthp)),
+        ])
+        .unwrap_or((CnthpEl3, Allowed(Cnthp)))
     }
 }

@@ -1,26 +1,29 @@
-//! CNTHVS_TVAL_EL2, CNTHVS_CTL_EL2 and CNTHVS_CVAL_EL2 (document 000).
+//! Document 01, 'Who may touch what': CNTHVS (source document 000).
 
-use crate::clause::Clause;
-use crate::ruling::Ruling;
-use crate::state::{Level, TimerName};
-use crate::words::Reading;
+use crate::clause::Clause::*;
+use crate::pages::Ruling;
+use crate::pages::Way::{Allowed, Undefined};
+use crate::reading::Reading;
+use crate::state::Level::{self, *};
+use crate::state::State;
+use crate::state::TimerName::{self, Cnthvs};
 
-impl Reading {
+impl Reading<'_> {
+    /// Undefined unless VHE and SEL2 are both there, at EL0 and EL1, at EL2 when not secure, at EL3
+    /// when EEL2 is 0; else allowed.
     pub(crate) fn cnthvs(&self, level: Level) -> Ruling<TimerName> {
-        let there = self.state.vhe && self.state.sel2;
-        if !there && self.stands(Clause::CnthvsMissing) {
-            return Ruling::undefined(Clause::CnthvsMissing);
-        }
-        let shut = match level {
-            Level::El0 => Some(Clause::CnthvsEl0),
-            Level::El1 => Some(Clause::CnthvsEl1),
-            Level::El2 => (!self.secure(level)).then_some(Clause::CnthvsEl2NotSecure),
-            Level::El3 => (!self.state.eel2).then_some(Clause::CnthvsEl3Eel2),
-        };
-        match shut {
-            Some(clause) if self.stands(clause) => Ruling::undefined(clause),
-            _ if level == Level::El3 => Ruling::open(Clause::CnthvsEl3, TimerName::Cnthvs),
-            _ => Ruling::open(Clause::CnthvsEl2, TimerName::Cnthvs),
-        }
+        let State {
+            vhe, sel2, eel2, ..
+        } = self.state;
+        let secure = self.secure(level);
+        self.first_that_fits(&[
+            (CnthvsMissing, !(vhe && sel2), Undefined),
+            (CnthvsEl0, level == El0, Undefined),
+            (CnthvsEl1, level == El1, Undefined),
+            (CnthvsEl2NotSecure, level == El2 && !secure, Undefined),
+            (CnthvsEl3Eel2, level == El3 && !eel2, Undefined),
+            (CnthvsEl2, level == El2, Allowed(Cnthvs)),
+        ])
+        .unwrap_or((CnthvsEl3, Allowed(Cnthvs)))
     }
 }

@@ -1,87 +1,59 @@
-//! CNTP_TVAL_EL0, CNTP_CTL_EL0 and CNTP_CVAL_EL0 (document 001).
+//! Document 01, 'Who may touch what': the CNTP family (source document 001; CTL and CVAL share the
+//! gates).
 
-use crate::clause::Clause;
-use crate::control::Control;
-use crate::ruling::Ruling;
-use crate::state::{Level, TimerName};
-use crate::words::Reading;
+use crate::clause::Clause::*;
+use crate::control::Control::*;
+use crate::pages::Ruling;
+use crate::pages::Way::{Allowed, TrapToEl1, TrapToEl2};
+use crate::reading::Reading;
+use crate::state::Level::{self, *};
+use crate::state::State;
+use crate::state::TimerName::{self, *};
 
-impl Reading {
+impl Reading<'_> {
     pub(crate) fn cntp(&self, level: Level) -> Ruling<TimerName> {
         match level {
-            Level::El0 => self.cntp_at_el0(),
-            Level::El1 => self.cntp_at_el1(),
-            Level::El2 => self.cntp_at_el2(),
-            Level::El3 => Ruling::open(Clause::CntpEl3, TimerName::Cntp),
+            El0 => self.cntp_at_el0(),
+            El1 => self.cntp_at_el1(),
+            El2 => self.cntp_at_el2(),
+            El3 => (CntpEl3, Allowed(Cntp)),
         }
     }
 
     fn cntp_at_el0(&self) -> Ruling<TimerName> {
-        if self.host() {
-            self.cntp_at_el0_of_host()
-        } else if let Some(trap) = self.letter_a(
-            Control::CntkctlEl0pten,
-            Clause::CntpEl0AToEl1,
-            Clause::CntpEl0AToEl2,
-        ) {
-            trap
-        } else if self.el2_on() {
-            self.cntp_at_el0_of_guest()
-        } else {
-            Ruling::open(Clause::CntpEl0G, TimerName::Cntp)
-        }
-    }
-
-    fn cntp_at_el0_of_host(&self) -> Ruling<TimerName> {
-        let secure = self.secure(Level::El0);
-        if !self.bit(Control::CnthctlEl0pten) && self.stands(Clause::CntpEl0D) {
-            Ruling::trap_to_el2(Clause::CntpEl0D)
-        } else if secure && self.state.sel2 && self.stands(Clause::CntpEl0E) {
-            Ruling::open(Clause::CntpEl0E, self.redirected(TimerName::Cnthps))
-        } else if !secure && self.stands(Clause::CntpEl0F) {
-            Ruling::open(Clause::CntpEl0F, self.redirected(TimerName::Cnthp))
-        } else {
-            Ruling::open(Clause::CntpEl0G, TimerName::Cntp)
-        }
-    }
-
-    /// EL2 is on and its E2H and TGE are not both 1.
-    fn cntp_at_el0_of_guest(&self) -> Ruling<TimerName> {
-        let (control, letter) = if self.state.e2h {
-            (Control::CnthctlEl1ptenE2h1, Clause::CntpEl0C)
-        } else {
-            (Control::CnthctlEl1pcenE2h0, Clause::CntpEl0B)
-        };
-        if !self.bit(control) && self.stands(letter) {
-            Ruling::trap_to_el2(letter)
-        } else {
-            Ruling::open(Clause::CntpEl0G, TimerName::Cntp)
-        }
+        let State { e2h, tge, sel2, .. } = self.state;
+        let (on, host, secure) = (self.el2_on(), self.host(), self.secure(El0));
+        let (a_to_el2, a_to_el1) = self.letter_a(CntkctlEl0pten);
+        let [el1pcen, el1pten, el0pten] = self.bits([El1pcen, El1pten, CnthctlEl0pten]);
+        self.first_that_fits(&[
+            (CntpEl0AToEl2, a_to_el2, TrapToEl2),
+            (CntpEl0AToEl1, a_to_el1, TrapToEl1),
+            (CntpEl0B, on && !e2h && !el1pcen, TrapToEl2),
+            (CntpEl0C, on && e2h && !tge && !el1pten, TrapToEl2),
+            (CntpEl0D, host && !el0pten, TrapToEl2),
+            (CntpEl0E, host && secure && sel2, Allowed(Cnthps)),
+            (CntpEl0F, host && !secure, Allowed(Cnthp)),
+        ])
+        .unwrap_or((CntpEl0G, Allowed(Cntp)))
     }
 
     fn cntp_at_el1(&self) -> Ruling<TimerName> {
-        let (control, gate) = if self.state.e2h {
-            (Control::CnthctlEl1ptenE2h1, Clause::CntpEl1Pten)
-        } else {
-            (Control::CnthctlEl1pcenE2h0, Clause::CntpEl1Pcen)
-        };
-        if self.el2_on() && !self.bit(control) && self.stands(gate) {
-            Ruling::trap_to_el2(gate)
-        } else {
-            Ruling::open(Clause::CntpEl1, TimerName::Cntp)
-        }
+        let (on, e2h) = (self.el2_on(), self.state.e2h);
+        let [el1pcen, el1pten] = self.bits([El1pcen, El1pten]);
+        self.first_that_fits(&[
+            (CntpEl1Pcen, on && !e2h && !el1pcen, TrapToEl2),
+            (CntpEl1Pten, on && e2h && !el1pten, TrapToEl2),
+        ])
+        .unwrap_or((CntpEl1, Allowed(Cntp)))
     }
 
     fn cntp_at_el2(&self) -> Ruling<TimerName> {
-        let secure = self.secure(Level::El2);
-        if !self.state.e2h {
-            Ruling::open(Clause::CntpEl2, TimerName::Cntp)
-        } else if secure && self.state.sel2 && self.stands(Clause::CntpEl2Secure) {
-            Ruling::open(Clause::CntpEl2Secure, self.redirected(TimerName::Cnthps))
-        } else if !secure && self.stands(Clause::CntpEl2NotSecure) {
-            Ruling::open(Clause::CntpEl2NotSecure, self.redirected(TimerName::Cnthp))
-        } else {
-            Ruling::open(Clause::CntpEl2, TimerName::Cntp)
-        }
+        let State { e2h, sel2, .. } = self.state;
+        let secure = self.secure(El2);
+        self.first_that_fits(&[
+            (CntpEl2Secure, e2h && secure && sel2, Allowed(Cnthps)),
+            (CntpEl2NotSecure, e2h && !secure, Allowed(Cnthp)),
+        ])
+        .unwrap_or((CntpEl2, Allowed(Cntp)))
     }
 }

@@ -1,73 +1,53 @@
-//! CNTV_TVAL_EL0, CNTV_CTL_EL0 and CNTV_CVAL_EL0 (documents 000 and, for EL1, 002).
+//! Document 01, 'Who may touch what': the CNTV family (source documents 000 and, for EL1, 002).
 
-use crate::clause::Clause;
-use crate::control::Control;
-use crate::ruling::Ruling;
-use crate::state::{Level, TimerName};
-use crate::words::Reading;
+use crate::clause::Clause::*;
+use crate::control::Control::*;
+use crate::pages::Ruling;
+use crate::pages::Way::{Allowed, TrapToEl1, TrapToEl2};
+use crate::reading::Reading;
+use crate::state::Level::{self, *};
+use crate::state::State;
+use crate::state::TimerName::{self, *};
 
-impl Reading {
+impl Reading<'_> {
     pub(crate) fn cntv(&self, level: Level) -> Ruling<TimerName> {
         match level {
-            Level::El0 => self.cntv_at_el0(),
-            Level::El1 => self.cntv_at_el1(),
-            Level::El2 => self.cntv_at_el2(),
-            Level::El3 => Ruling::open(Clause::CntvEl3, TimerName::Cntv),
+            El0 => self.cntv_at_el0(),
+            El1 => self.cntv_at_el1(),
+            El2 => self.cntv_at_el2(),
+            El3 => (CntvEl3, Allowed(Cntv)),
         }
     }
 
     fn cntv_at_el0(&self) -> Ruling<TimerName> {
-        if self.host() {
-            self.cntv_at_el0_of_host()
-        } else if let Some(trap) = self.letter_a(
-            Control::CntkctlEl0vten,
-            Clause::CntvEl0AToEl1,
-            Clause::CntvEl0AToEl2,
-        ) {
-            trap
-        } else if self.guest_trapped(Control::CnthctlEl1tvt) && self.stands(Clause::CntvEl0C) {
-            Ruling::trap_to_el2(Clause::CntvEl0C)
-        } else {
-            Ruling::open(Clause::CntvEl0F, TimerName::Cntv)
-        }
-    }
-
-    fn cntv_at_el0_of_host(&self) -> Ruling<TimerName> {
-        let secure = self.secure(Level::El0);
-        if !self.bit(Control::CnthctlEl0vten) && self.stands(Clause::CntvEl0B) {
-            Ruling::trap_to_el2(Clause::CntvEl0B)
-        } else if secure && self.state.sel2 && self.stands(Clause::CntvEl0D) {
-            Ruling::open(Clause::CntvEl0D, self.redirected(TimerName::Cnthvs))
-        } else if !secure && self.stands(Clause::CntvEl0E) {
-            Ruling::open(Clause::CntvEl0E, self.redirected(TimerName::Cnthv))
-        } else {
-            Ruling::open(Clause::CntvEl0F, TimerName::Cntv)
-        }
+        let State { sel2, ecv, .. } = self.state;
+        let (on, host, secure) = (self.el2_on(), self.host(), self.secure(El0));
+        let (a_to_el2, a_to_el1) = self.letter_a(CntkctlEl0vten);
+        let [el0vten, el1tvt] = self.bits([CnthctlEl0vten, El1tvt]);
+        self.first_that_fits(&[
+            (CntvEl0AToEl2, a_to_el2, TrapToEl2),
+            (CntvEl0AToEl1, a_to_el1, TrapToEl1),
+            (CntvEl0B, host && !el0vten, TrapToEl2),
+            (CntvEl0C, on && !host && ecv && el1tvt, TrapToEl2),
+            (CntvEl0D, host && secure && sel2, Allowed(Cnthvs)),
+            (CntvEl0E, host && !secure, Allowed(Cnthv)),
+        ])
+        .unwrap_or((CntvEl0F, Allowed(Cntv)))
     }
 
     fn cntv_at_el1(&self) -> Ruling<TimerName> {
-        if self.guest_trapped(Control::CnthctlEl1tvt) && self.stands(Clause::CntvEl1Tvt) {
-            Ruling::trap_to_el2(Clause::CntvEl1Tvt)
-        } else {
-            Ruling::open(Clause::CntvEl1, TimerName::Cntv)
-        }
+        let (on, ecv, el1tvt) = (self.el2_on(), self.state.ecv, self.bit(El1tvt));
+        self.first_that_fits(&[(CntvEl1Tvt, on && ecv && el1tvt, TrapToEl2)])
+            .unwrap_or((CntvEl1, Allowed(Cntv)))
     }
 
     fn cntv_at_el2(&self) -> Ruling<TimerName> {
-        let secure = self.secure(Level::El2);
-        if !self.state.e2h {
-            Ruling::open(Clause::CntvEl2, TimerName::Cntv)
-        } else if secure && self.state.sel2 && self.stands(Clause::CntvEl2Secure) {
-            Ruling::open(Clause::CntvEl2Secure, self.redirected(TimerName::Cnthvs))
-        } else if !secure && self.stands(Clause::CntvEl2NotSecure) {
-            Ruling::open(Clause::CntvEl2NotSecure, self.redirected(TimerName::Cnthv))
-        } else {
-            Ruling::open(Clause::CntvEl2, TimerName::Cntv)
-        }
-    }
-
-    /// EL2 on, ECV, and the trap bit 1: what EL1TVT and EL1TVCT ask below EL2.
-    pub(crate) fn guest_trapped(&self, control: Control) -> bool {
-        self.el2_on() && self.state.ecv && self.bit(control)
+        let State { e2h, sel2, .. } = self.state;
+        let secure = self.secure(El2);
+        self.first_that_fits(&[
+            (CntvEl2Secure, e2h && secure && sel2, Allowed(Cnthvs)),
+            (CntvEl2NotSecure, e2h && !secure, Allowed(Cnthv)),
+        ])
+        .unwrap_or((CntvEl2, Allowed(Cntv)))
     }
 }

@@ -1,17 +1,19 @@
-//! CNTVOFF_EL2 (document 003).
+//! Document 01, 'Who may touch what': CNTVOFF (source document 003).
 
-use crate::clause::Clause;
-use crate::ruling::Ruling;
-use crate::state::Level;
-use crate::words::Reading;
+use crate::clause::Clause::*;
+use crate::pages::Ruling;
+use crate::pages::Way::{Allowed, Undefined};
+use crate::reading::Reading;
+use crate::state::Level::{self, *};
 
-impl Reading {
+impl Reading<'_> {
+    /// Undefined at EL0 and EL1, allowed at EL2 and EL3.
     pub(crate) fn cntvoff(&self, level: Level) -> Ruling<()> {
-        match level {
-            Level::El0 if self.stands(Clause::CntvoffEl0) => Ruling::undefined(Clause::CntvoffEl0),
-            Level::El1 if self.stands(Clause::CntvoffEl1) => Ruling::undefined(Clause::CntvoffEl1),
-            Level::El3 => Ruling::open(Clause::CntvoffEl3, ()),
-            _ => Ruling::open(Clause::CntvoffEl2, ()),
-        }
+        self.first_that_fits(&[
+            (CntvoffEl0, level == El0, Undefined),
+            (CntvoffEl1, level == El1, Undefined),
+            (CntvoffEl2, level == El2, Allowed(())),
+        ])
+        .unwrap_or((CntvoffEl3, Allowed(())))
     }
 }

@@ -1,0 +1,11 @@
+//! Text to bytes: lines of words and signs, and what they may say.
+
+mod fault;
+mod journal;
+mod line;
+mod number;
+mod token;
+
+pub use fault::Fault;
+pub use journal::{entries, journal_of, pack, Entry};
+pub use number::number_of;

@@ -1,0 +1,40 @@
+//! Numbers as they are written in a text.
+
+/// A number of at most 64 bits, decimal or 0x.
+pub fn number_of(text: &str) -> Option<u64> {
+    let (digits, radix) = match text.strip_prefix("0x").or(text.strip_prefix("0X")) {
+        Some(digits) => (digits, 16),
+        None => (text, 10),
+    };
+    let plain = digits.chars().all(|digit| digit.is_digit(radix));
+    plain.then(|| u64::from_str_radix(digits, radix).ok())?
+}
+
+#[cfg(test)]
+mod tests {
+    use super::*;
+
+    #[test]
+    fn a_number_is_decimal_or_hexadecimal() {
+        assert_eq!(number_of("1000"), Some(1000));
+        assert_eq!(number_of("0x3e8"), Some(1000));
+        assert_eq!(number_of("0X3E8"), Some(1000));
+        assert_eq!(number_of("18446744073709551615"), Some(u64::MAX));
+    }
+
+    #[test]
+    fn odd_numbers_are_none() {
+        for text in [
+            "",
+            "0x",
+            "+1",
+            "-1",
+            "1_0",
+            "1k",
+            "18446744073709551616",
+            "0xG",
+        ] {
+            assert_eq!(number_of(text), None, "{text}");
+        }
+    }
+}
