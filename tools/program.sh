@@ -1,30 +1,53 @@
 # shellcheck shell=bash
-# Programs for x86-64, which is what the kit compiles for: how they are linked with the library and run. On Arm the kit's own
-# compiler, linker and emulator do it.
+# Programs for x86-64 and for Arm: how they are linked with the library and run on this machine. The kit compiles for x86-64; on
+# Arm its own compiler, linker and emulator link and run that. On x86-64 an Arm program needs a compiler and an emulator that
+# the machine may have. Uses tools/kit.sh.
+
+# where_and_for ARCH: this machine and the other, as a word
+where_and_for() {
+    echo "$(uname -m)/$1"
+}
 
 no_way() {
-    echo "no way to $1 on this machine: $(uname -m) is neither x86_64 nor aarch64" >&2
+    echo "no way to $1 on this machine, $(uname -m)" >&2
     return 1
 }
 
-# run_program FILE [ARGUMENT..]
-run_program() {
-    local kit
-    kit=$(kit_toolchain)
-    case $(uname -m) in
-    x86_64) "$@" ;;
-    aarch64) "$kit/bin/qemu-x86_64" "$kit/lib/ld-linux-x86-64.so.2" --library-path "$kit/lib" "$@" ;;
-    *) no_way "run $1" ;;
+# can_run ARCH: whether a C program for it can be linked and run here
+can_run() {
+    case $(where_and_for "$1") in
+    x86_64/aarch64) command -v aarch64-linux-gnu-gcc qemu-aarch64 >/dev/null ;;
+    *) true ;;
     esac
 }
 
-# link_program FILE.c OUT: a C program with the library of target/staticlib
-link_program() {
-    local options=(-std=c11 -O2 -Wall -Wextra -Wconversion -Werror -Ibinding/c) archive=target/staticlib/liblent.a
-    case $(uname -m) in
-    x86_64) cc "${options[@]}" "$1" "$archive" -o "$2" ;;
-    aarch64) cross_link "$1" "$archive" "$2" "${options[@]}" ;;
-    *) no_way "link $1" ;;
+# run_for ARCH FILE [ARGUMENT..]
+run_for() {
+    local kit
+    case $(where_and_for "$1") in
+    x86_64/x86_64 | aarch64/aarch64) "${@:2}" ;;
+    aarch64/x86_64)
+        kit=$(kit_toolchain)
+        "$kit/bin/qemu-x86_64" "$kit/lib/ld-linux-x86-64.so.2" --library-path "$kit/lib" "${@:2}"
+        ;;
+    x86_64/aarch64) qemu-aarch64 "${@:2}" ;;
+    *) no_way "run $2" ;;
+    esac
+}
+
+# run_program FILE [ARGUMENT..]: a program that rt built
+run_program() {
+    run_for x86_64 "$@"
+}
+
+# link_for ARCH FILE.c OUT: a C program with the archive that tools/library leaves
+link_for() {
+    local options=(-std=c11 -O2 -Wall -Wextra -Wconversion -Werror -Ibinding/c) archive=target/lib/$1/libelsterkabel.a
+    case $(where_and_for "$1") in
+    x86_64/x86_64 | aarch64/aarch64) cc "${options[@]}" "$2" "$archive" -o "$3" ;;
+    aarch64/x86_64) cross_link "$2" "$archive" "$3" "${options[@]}" ;;
+    x86_64/aarch64) aarch64-linux-gnu-gcc -static "${options[@]}" "$2" "$archive" -o "$3" ;;
+    *) no_way "link $2" ;;
     esac
 }
 

@@ -12,7 +12,9 @@
  * memory behind it is readable, and writable where it is not const, for the whole length; no two pointers of a call
  * overlap; no other thread touches that memory during the call; and a bool is 0 or 1.
  *
- * Link target/staticlib/liblent.a, which `rt staticlib lent` writes. It needs memcpy and nothing else of a C library.
+ * Link target/lib/ARCH/libelsterkabel.a, which `tools/library ARCH` writes, for x86_64 and for aarch64. It needs memcpy
+ * and nothing else of a C library. For aarch64 it uses no register for floating point and vectors; its accesses need
+ * not be aligned, so what is lent and the stack are Normal memory, and SCTLR_ELx.A is 0.
  */
 #ifndef ELSTERKABEL_H
 #define ELSTERKABEL_H

@@ -3,8 +3,8 @@
  * exception class 0x18; the handler takes the word, the level, the operand register and the count, calls, and acts on
  * the number. `main` lets a guest arm its virtual timer for 50 ticks.
  *
- *     rt staticlib lent
- *     cc -Ibinding/c binding/c/trap_handler.c target/staticlib/liblent.a -o target/trap_handler
+ *     tools/library "$(uname -m)"
+ *     cc -Ibinding/c binding/c/trap_handler.c target/lib/$(uname -m)/libelsterkabel.a -o target/trap_handler
  */
 #include "elsterkabel.h"
 

@@ -9,28 +9,33 @@ fn main() {
     if env::var_os("CARGO_FEATURE_LINK").is_none() {
         return;
     }
+    // No failure on another machine, since what is only checked and never linked is well on any.
     match env::var("CARGO_CFG_TARGET_ARCH").as_deref() {
-        Ok("x86_64") => link(&folder()),
-        // No failure, since what is only checked and never linked is well on any machine.
-        _ => println!("cargo:warning=the archive is for x86-64 alone, so it is not linked"),
+        Ok(arch @ ("x86_64" | "aarch64")) => link(arch),
+        _ => println!("cargo:warning=the archive is for x86-64 and Arm, so it is not linked"),
     }
 }
 
-/// The folder of the archive; by default where `rt staticlib lent` leaves it.
-fn folder() -> PathBuf {
+/// The folder of the archive; by default where `tools/library` leaves it.
+fn folder(arch: &str) -> PathBuf {
     env::var_os("ELSTERKABEL_ARCHIVE").map_or_else(
-        || Path::new(env!("CARGO_MANIFEST_DIR")).join("../../target/staticlib"),
+        || {
+            Path::new(env!("CARGO_MANIFEST_DIR"))
+                .join("../../target/lib")
+                .join(arch)
+        },
         PathBuf::from,
     )
 }
 
-fn link(folder: &Path) {
-    let archive = folder.join("liblent.a");
+fn link(arch: &str) {
+    let folder = folder(arch);
+    let archive = folder.join("libelsterkabel.a");
     println!("cargo:rerun-if-changed={}", archive.display());
     if !archive.is_file() {
         let missing = archive.display();
-        println!("cargo:warning=there is no {missing}; `rt staticlib lent` writes it");
+        println!("cargo:warning=there is no {missing}; `tools/library {arch}` writes it");
     }
     println!("cargo:rustc-link-search=native={}", folder.display());
-    println!("cargo:rustc-link-lib=static=lent");
+    println!("cargo:rustc-link-lib=static=elsterkabel");
 }

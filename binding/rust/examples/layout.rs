@@ -3,7 +3,7 @@
 
 use core::mem::{align_of, offset_of, size_of};
 
-use elsterkabel::{Answer, Controls, Features, Lines, State, Timer, Timers};
+use elsterkabel::{Access, Answer, Controls, Features, Lines, State, Timer, Timers};
 
 macro_rules! layout {
     ($name:ident: $($field:ident),+) => {
@@ -22,6 +22,7 @@ fn main() {
     layout!(Timer: cval, enable, imask);
     layout!(Timers: cntp, cntv, cnthp, cnthv, cnthps, cnthvs);
     layout!(State: features, controls, cntvoff, cntpoff, timers);
+    layout!(Access: word, level, operand, count);
     layout!(Answer: number, rt, value, mask);
     layout!(Lines: number, cntp, cntv, cnthp, cnthv, cnthps, cnthvs);
 }

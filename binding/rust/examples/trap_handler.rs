@@ -3,10 +3,10 @@
 //! register and the count, calls, and acts on the number. `main` lets a guest arm its virtual
 //! timer for 50 ticks.
 //!
-//!     rt staticlib lent
+//!     tools/library "$(uname -m)"
 //!     cargo run -p elsterkabel --features link --example trap_handler
 
-use elsterkabel::{number, Controls, Features, State};
+use elsterkabel::{number, Access, Controls, Features, State};
 
 /// What a hypervisor keeps of a guest. XZR, which is register 31, has no place.
 struct Guest {
@@ -67,8 +67,12 @@ impl Guest {
 
     fn handle(&mut self, iss: u32, level: u8, count: u64) -> Todo {
         let (mrs, rt) = (iss & 1 == 1, (iss >> 5 & 31) as usize);
-        let operand = self.x.get(rt).copied().unwrap_or(0);
-        let answer = self.timers.access(word_of(iss), level, operand, count);
+        let answer = self.timers.access(Access {
+            word: word_of(iss),
+            level,
+            operand: self.x.get(rt).copied().unwrap_or(0),
+            count,
+        });
         match answer.number {
             number::DONE => self.done(mrs, rt, answer.value),
             number::UNDEFINED => Todo::InjectUndefined,

@@ -1,18 +1,12 @@
-//! The archive's three functions, as methods of [`State`] that cannot be called wrongly.
+//! The archive's functions, as methods of [`State`] that cannot be called wrongly.
 
-use crate::types::{Answer, Lines, State};
+use crate::types::{Access, Answer, Lines, State};
 
-// Why what comes back is sound, for all three: the signatures are those of binding/c/elsterkabel.h,
-// the tests hold the layout of the types against it, and each bool that is returned or stored is 0
-// or 1, since the language of the archive's source has no other.
+// Why what comes back is sound, for all: the signatures are those of binding/c/elsterkabel.h, the
+// tests hold the layout of the types against it, and each bool that is stored is 0 or 1, since the
+// language of the archive's source has no other.
 extern "C" {
-    fn elsterkabel_access_in(
-        state: *mut State,
-        word: u32,
-        level: u8,
-        operand: u64,
-        count: u64,
-    ) -> Answer;
+    fn elsterkabel_access_in(state: *mut State, access: *const Access, answer: *mut Answer);
 
     fn elsterkabel_run_in(
         state: *mut State,
@@ -22,20 +16,22 @@ extern "C" {
         answers_length: usize,
     ) -> u8;
 
-    fn elsterkabel_lines(state: State, count: u64) -> Lines;
+    fn elsterkabel_lines(state: *const State, count: u64, lines: *mut Lines);
 }
 
 impl State {
-    /// One access: an MRS or MSR word at a level. The operand is what the register Rt holds, and
-    /// counts for a write alone.
+    /// The answer to one access, which the state takes.
     #[inline]
     #[must_use = "the number says what the guest is due"]
-    pub fn access(&mut self, word: u32, level: u8, operand: u64, count: u64) -> Answer {
-        // SAFETY: the pointer comes from a reference, so it is not null and is aligned, and the
-        // state behind it is readable and writable, whole. It is the call's one pointer. The
-        // reference is exclusive, so no other thread touches the state. A Rust bool is 0 or 1. The
-        // answer and the state that is left are sound as the declarations say.
-        unsafe { elsterkabel_access_in(self, word, level, operand, count) }
+    pub fn access(&mut self, access: Access) -> Answer {
+        let mut answer = Answer::default();
+        // SAFETY: the pointers come from references, so none is null and each is aligned, and what
+        // is behind them is readable, and writable but for the access, whole. The access and the
+        // answer are this call's own and the state is borrowed exclusively, so no two overlap and
+        // no other thread touches them. A Rust bool is 0 or 1. The answer and the state that are
+        // left are sound as the declarations say.
+        unsafe { elsterkabel_access_in(self, &access, &mut answer) };
+        answer
     }
 
     /// A journal of accesses, run in order on the state; answer i is written to part i of the
@@ -65,9 +61,13 @@ impl State {
     #[inline]
     #[must_use]
     pub fn lines(&self, count: u64) -> Lines {
-        // SAFETY: the state goes by value, so there is no pointer that could be null, misaligned,
-        // too short, shared with another or touched by a thread. A Rust bool is 0 or 1. The lines
-        // that come back are sound as the declarations say.
-        unsafe { elsterkabel_lines(*self, count) }
+        let mut lines = Lines::default();
+        // SAFETY: the pointers come from references, so none is null and each is aligned; the state
+        // is readable and the lines are readable and writable, whole. The lines are this call's
+        // own, so the two do not overlap; no other thread touches them, nor writes the state while
+        // it is borrowed. A Rust bool is 0 or 1. The lines that are left are sound as the
+        // declarations say.
+        unsafe { elsterkabel_lines(self, count, &mut lines) };
+        lines
     }
 }

@@ -1,14 +1,13 @@
 //! Elsterkabel: the answer desk for the Arm Generic Timer, for hypervisors in Rust.
 //!
-//! A trap handler lends its guest's timer [`State`], passes on the instruction word, the
-//! exception level, the operand and the physical count, and acts on the [`number`] that it gets.
-//! Whatever the word, level, operand, count, state and journal are, there is an answer; nothing
-//! has to be checked first.
+//! A trap handler lends its guest's timer [`State`], passes on the [`Access`], and acts on the
+//! [`number`] that it gets. Whatever the access, the state and the journal are, there is an
+//! answer; nothing has to be checked first.
 //!
 //! # What is proved
 //!
-//! The three functions of the archive: for all inputs their whole result, the whole next state
-//! and every byte of the answer buffer are those of the rulebook (docs/PROMISES.md).
+//! The functions of the archive: for all inputs their whole result, the whole next state and
+//! every byte of the answer buffer are those of the rulebook (docs/PROMISES.md).
 //!
 //! # What is not
 //!
@@ -18,10 +17,10 @@
 //!
 //! # Linking
 //!
-//! With the feature `link` the build script names `liblent.a`, which `rt staticlib lent` writes:
-//! in the folder of the environment variable `ELSTERKABEL_ARCHIVE` (a full path), else in the
-//! repository's `target/staticlib`. Without it the host links the archive itself. It has x86-64
-//! objects and needs `memcpy` and nothing else.
+//! With the feature `link` the build script names `libelsterkabel.a`, which `tools/library` writes
+//! for x86-64 and for Arm: in the folder of the environment variable `ELSTERKABEL_ARCHIVE` (a full
+//! path), else in the repository's `target/lib`, in the folder of the machine. Without it the host
+//! links the archive itself. It needs `memcpy` and nothing else.
 
 #![no_std]
 
@@ -29,5 +28,6 @@ mod calls;
 mod types;
 
 pub use types::{
-    number, Answer, Controls, Features, Lines, State, Timer, Timers, RECORD_BYTES, RECORD_LIMIT,
+    number, Access, Answer, Controls, Features, Lines, State, Timer, Timers, RECORD_BYTES,
+    RECORD_LIMIT,
 };

@@ -85,6 +85,18 @@ pub struct State {
     pub timers: Timers,
 }
 
+/// One access: an MRS or MSR word at a level.
+#[repr(C)]
+#[derive(Clone, Copy, Debug, Default, PartialEq, Eq)]
+pub struct Access {
+    pub word: u32,
+    pub level: u8,
+    /// What the register Rt holds. It counts for a write alone.
+    pub operand: u64,
+    /// The physical count.
+    pub count: u64,
+}
+
 /// The answer to one access.
 #[repr(C)]
 #[derive(Clone, Copy, Debug, Default, PartialEq, Eq)]

@@ -2,7 +2,8 @@
 //! that no journal can hold, and the lines. What is expected stands in docs/RULES.md.
 
 use elsterkabel::{
-    number, Answer, Controls, Features, Lines, State, Timer, Timers, RECORD_BYTES, RECORD_LIMIT,
+    number, Access, Answer, Controls, Features, Lines, State, Timer, Timers, RECORD_BYTES,
+    RECORD_LIMIT,
 };
 
 const EL1: u8 = 1;
@@ -38,6 +39,15 @@ fn bench_after_reading_4() -> State {
     let mut state = bench();
     state.timers.cntv.cval = 599;
     state
+}
+
+fn access(word: u32, level: u8, operand: u64, count: u64) -> Access {
+    Access {
+        word,
+        level,
+        operand,
+        count,
+    }
 }
 
 fn done(value: u64) -> Answer {
@@ -79,7 +89,7 @@ fn assert_refused(journal: &[u8], buffer_bytes: usize, number: u8) {
 #[test]
 fn reading_1_the_virtual_count() {
     let mut state = bench();
-    assert_eq!(state.access(MRS_CNTVCT, EL1, 0, 1000), done(600));
+    assert_eq!(state.access(access(MRS_CNTVCT, EL1, 0, 1000)), done(600));
     assert_eq!(state, bench());
 }
 
@@ -87,7 +97,7 @@ fn reading_1_the_virtual_count() {
 fn reading_2_the_physical_count_is_trapped() {
     let mut state = bench();
     let trapped = numbered(number::TRAP_TO_EL2);
-    assert_eq!(state.access(MRS_CNTPCT, EL1, 0, 1000), trapped);
+    assert_eq!(state.access(access(MRS_CNTPCT, EL1, 0, 1000)), trapped);
     assert_eq!(state, bench());
 }
 
@@ -95,27 +105,30 @@ fn reading_2_the_physical_count_is_trapped() {
 fn reading_4_a_tval_write_is_found_in_the_lent_state() {
     let mut state = bench();
     let written = Answer { rt: 1, ..done(0) };
-    assert_eq!(state.access(MSR_CNTV_TVAL, EL1, 0xFFFF_FFFF, 1000), written);
+    assert_eq!(
+        state.access(access(MSR_CNTV_TVAL, EL1, 0xFFFF_FFFF, 1000)),
+        written
+    );
     assert_eq!(state, bench_after_reading_4());
 }
 
 #[test]
 fn reading_8_the_status_of_a_disabled_timer_is_unknown() {
     let unknown = Answer { mask: 4, ..done(0) };
-    assert_eq!(bench().access(MRS_CNTV_CTL, EL1, 0, 1000), unknown);
+    assert_eq!(bench().access(access(MRS_CNTV_CTL, EL1, 0, 1000)), unknown);
 }
 
 #[test]
 fn reading_12_a_wrap_a_host_and_a_stranger() {
     let wrapped = done(0xFFFF_FFFF_FFFF_FE75);
-    assert_eq!(bench().access(MRS_CNTVCT, EL1, 0, 5), wrapped);
+    assert_eq!(bench().access(access(MRS_CNTVCT, EL1, 0, 5)), wrapped);
 
     let mut host = bench();
     host.controls.e2h = true;
-    assert_eq!(host.access(MRS_CNTVCT, EL2, 0, 1000), done(1000));
+    assert_eq!(host.access(access(MRS_CNTVCT, EL2, 0, 1000)), done(1000));
 
     let stranger = numbered(number::NOT_A_TIMER_ACCESS);
-    assert_eq!(bench().access(0xD53B_E000, EL1, 0, 1000), stranger);
+    assert_eq!(bench().access(access(0xD53B_E000, EL1, 0, 1000)), stranger);
 }
 
 #[test]
@@ -123,7 +136,7 @@ fn a_level_above_3_cannot_be() {
     for level in [4, 255] {
         let mut state = bench();
         let impossible = numbered(number::IMPOSSIBLE_CONTEXT);
-        assert_eq!(state.access(MRS_CNTVCT, level, 0, 1000), impossible);
+        assert_eq!(state.access(access(MRS_CNTVCT, level, 0, 1000)), impossible);
         assert_eq!(state, bench());
     }
 }

@@ -68,19 +68,39 @@ impl Program {
         })
     }
 
-    /// `bench`, the C program with the archive linked in, from BENCH or from where its build
-    /// leaves it. It takes a journal in one of three ways: `run`, `access`, or `lend` with the
-    /// length of the buffer.
-    pub fn bench(way: &str) -> Result<Program, String> {
-        let bench = Program {
-            name: "bench".to_string(),
-            command: Program::found("BENCH", "target/link/bench")?,
-        };
-        Ok(bench.with(way))
+    /// The C program with an archive linked in: the one that BENCH names, or else one for each
+    /// machine that there is an archive for. It takes a journal in one of three ways: `run`,
+    /// `access`, or `lend` with the length of the buffer.
+    pub fn benches() -> Result<Vec<Program>, String> {
+        if env::var_os("BENCH").is_some() {
+            return Ok(vec![Program::bench("bench", "")?]);
+        }
+        let mut benches = vec![Program::bench(
+            "bench for x86-64",
+            "target/link/x86_64/bench",
+        )?];
+        let arm = "target/link/aarch64/bench";
+        if env::consts::ARCH == "aarch64" || repository().join(arm).exists() {
+            benches.push(Program::bench("bench for Arm", arm)?);
+        } else {
+            println!("{arm} cannot run here and was not linked, so it is not compared");
+        }
+        Ok(benches)
+    }
+
+    fn bench(name: &str, place: &str) -> Result<Program, String> {
+        Ok(Program {
+            name: name.to_string(),
+            command: Program::found("BENCH", place)?,
+        })
+    }
+
+    pub fn name(&self) -> &str {
+        &self.name
     }
 
     /// The program with one more argument.
-    pub(crate) fn with(&self, argument: &str) -> Program {
+    pub fn with(&self, argument: &str) -> Program {
         Program {
             name: format!("{} {argument}", self.name),
             command: [&self.command[..], &[argument.into()]].concat(),
@@ -105,11 +125,13 @@ impl Program {
     }
 
     /// The one place in Rust that decides how a program runs: as it is on a machine of its own
-    /// kind, and an x86-64 program on an Arm machine under the kit's emulator.
+    /// kind, an x86-64 program on an Arm machine under the kit's emulator, and an Arm program on
+    /// an x86-64 machine under that machine's.
     fn on_this_machine(path: &Path, machine: u16, here: &str) -> Result<Vec<OsString>, String> {
         match (machine, here) {
             (X86_64, "x86_64") | (AARCH64, "aarch64") => Ok(vec![path.into()]),
             (X86_64, "aarch64") => Program::emulated(path, &kit()?),
+            (AARCH64, "x86_64") => Ok(vec!["qemu-aarch64".into(), path.into()]),
             _ => Err(format!(
                 "{} is for ELF machine {machine}; this machine is {here} and has no emulator for it",
                 path.display()
@@ -315,6 +337,13 @@ mod tests {
             let command = Program::on_this_machine(path, machine, here);
             assert_eq!(command, Ok(vec![OsString::from(path)]));
         }
+    }
+
+    #[test]
+    fn an_arm_program_runs_under_an_emulator_elsewhere() {
+        let path = Path::new("/some/bench");
+        let command = Program::on_this_machine(path, AARCH64, "x86_64");
+        assert_eq!(command, Ok(vec!["qemu-aarch64".into(), path.into()]));
     }
 
     #[test]

@@ -1,4 +1,4 @@
-//! The archive and `probe`: a C program with the archive linked in takes each journal by one run
+//! The archives and `probe`: a C program with an archive linked in takes each journal by one run
 //! and record by record, and has to write what `probe` writes. A fixed seed and a fresh one.
 
 use std::process::ExitCode;
@@ -19,7 +19,10 @@ fn main() -> ExitCode {
 
 fn compare_all() -> Result<(), String> {
     let probe = Program::probe()?;
-    let benches = [Program::bench("run")?, Program::bench("access")?];
+    let benches: Vec<Program> = Program::benches()?
+        .iter()
+        .flat_map(|bench| [bench.with("run"), bench.with("access")])
+        .collect();
     stretch(&probe, &benches, "fixed", FIXED_SEED)?;
     stretch(&probe, &benches, "fresh", fresh_seed()?)
 }
@@ -35,6 +38,8 @@ fn stretch(probe: &Program, benches: &[Program], name: &str, seed: u64) -> Resul
     }
     let states = campaign.start_states();
     let seconds = begun.elapsed().as_secs_f32();
-    println!("all three agreed on {states} start states and {records} records in {seconds:.1} s");
+    let names: Vec<&str> = benches.iter().map(Program::name).collect();
+    println!("probe, {} agreed", names.join(", "));
+    println!("on {states} start states and {records} records in {seconds:.1} s");
     LEAST.met_by(states, records)
 }

@@ -1,4 +1,4 @@
-//! The lent buffer, of any length: a C program with the archive linked in lends it, and its number,
+//! The lent buffer, of any length: a C program with an archive linked in lends it, and its number,
 //! every one of its bytes and the state have to be the second reading's. A fixed seed, a fresh
 //! seed, and every slip of the buffer.
 
@@ -15,14 +15,18 @@ fn main() -> ExitCode {
 }
 
 fn compare_all() -> Result<(), String> {
-    let bench = Program::bench("lend")?;
-    let fixed = stretch(&bench, "fixed", FIXED_SEED)?;
-    stretch(&bench, "fresh", fresh_seed()?)?;
-    catch_each(&slips::of_the_buffer(), |slip| fixed.catches(slip))
+    let fresh = fresh_seed()?;
+    for bench in Program::benches()? {
+        let bench = bench.with("lend");
+        let fixed = stretch(&bench, "fixed", FIXED_SEED)?;
+        stretch(&bench, "fresh", fresh)?;
+        catch_each(&slips::of_the_buffer(), |slip| fixed.catches(slip))?;
+    }
+    Ok(())
 }
 
 fn stretch(bench: &Program, name: &str, seed: u64) -> Result<Loans, String> {
-    println!("{name} seed {seed:#018X}: {CASES} cases");
+    println!("{}, {name} seed {seed:#018X}: {CASES} cases", bench.name());
     let begun = Instant::now();
     let loans = Loans::run(bench, seed, CASES)?;
     let met = loans.compare()?;
