@@ -11,6 +11,7 @@ pub mod Numbers
 pub mod Offset
 pub mod ReadBack
 pub mod Refusals
+pub mod Syndromes
 pub mod TwoMachines
 pub mod Ways
 pub mod Writes

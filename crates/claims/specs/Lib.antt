@@ -12,3 +12,4 @@ pub mod TwoMachines
 pub mod Lease
 pub mod LeaseExample
 pub mod Impostors
+pub mod Syndromes

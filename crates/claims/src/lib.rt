@@ -13,6 +13,7 @@ ghost use Rattle.claims.specs.TwoMachines.{TwoMachines};
 ghost use Rattle.claims.specs.Impostors.{ImpostorsClaim, TrappedIsNeeded};
 ghost use Rattle.claims.specs.Lease.{LeaseClaim};
 ghost use Rattle.claims.specs.LeaseExample.{LeaseExample};
+ghost use Rattle.claims.specs.Syndromes.{SyndromesAndWords};
 
 // It does nothing. Each claim is a line of its promise, since a theorem that no function needs can be taken out unseen.
 pub fn every_claim_holds()
@@ -41,4 +42,5 @@ pub fn every_claim_holds()
     ensures { λ _. ⌜ ImpostorsClaim ⌝ }
     ensures { λ _. ⌜ LeaseClaim ⌝ }
     ensures { λ _. ⌜ LeaseExample ⌝ }
+    ensures { λ _. ⌜ SyndromesAndWords ⌝ }
 {}

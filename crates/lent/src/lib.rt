@@ -5,6 +5,7 @@ ghost use mathlib.Core.Path.{_≡_};
 ghost use Rattle.rules.specs.Access.{accessOf};
 ghost use Rattle.rules.specs.Journal.{runOf, bufferAfter};
 ghost use Rattle.rules.specs.Lines.{linesOf};
+ghost use Rattle.rules.specs.Syndromes.{wordOf};
 use rules::Access;
 use rules::Answer;
 use rules::Lines;
@@ -42,6 +43,14 @@ pub extern "C" fn elsterkabel_lines(s: &State, count: u64, lines: &mut Lines)
     ensures { λ _. ⌜ now (lines .exit) ≡ linesOf (now (s .entry)) count ⌝ }
 {
     *lines = desk::lines(*s, count);
+}
+
+// The word for an access, where a handler has the syndrome of its trap.
+#[no_mangle]
+pub extern "C" fn elsterkabel_word_of(iss: u32) -> u32
+    ensures { λ r. ⌜ r ≡ wordOf iss ⌝ }
+{
+    registers::word_of(iss)
 }
 
 #[no_mangle]

@@ -15,9 +15,11 @@ use Rattle.desk.proofs.as_before as desk-as-before
 use Rattle.journal.proofs.run as journal-run
 use Rattle.journal.proofs.last_count as journal-last-count
 use Rattle.lent.proofs.elsterkabel_version as lent-elsterkabel-version
+use Rattle.lent.proofs.elsterkabel_word_of as lent-elsterkabel-word-of
 use Rattle.registers.proofs.register.Register.named_by as registers-named-by
 use Rattle.registers.proofs.is_mrs as registers-is-mrs
 use Rattle.registers.proofs.rt as registers-rt
+use Rattle.registers.proofs.word_of as registers-word-of
 use Rattle.gates.proofs.facts as gates-facts
 use Rattle.gates.proofs.cnthctl as gates-cnthctl
 use Rattle.gates.proofs.el2_on as gates-el2-on
@@ -57,9 +59,11 @@ pub record EachPromise : Type 0 where
   pub runBuffer : OneLeft 2 journal-run.Kinds.ps journal-run.Kinds.r journal-run.Reads.Learnt (λ κs e. now (e .1 .1 .0))
   pub lastCount : OneResult 1 journal-last-count.Kinds.ps journal-last-count.Kinds.r journal-last-count.Reads.Learnt
   pub elsterkabelVersion : OneResult 0 lent-elsterkabel-version.Kinds.ps lent-elsterkabel-version.Kinds.r lent-elsterkabel-version.Reads.Learnt
+  pub elsterkabelWordOf : OneResult 0 lent-elsterkabel-word-of.Kinds.ps lent-elsterkabel-word-of.Kinds.r lent-elsterkabel-word-of.Reads.Learnt
   pub namedBy : OneResult 0 registers-named-by.Kinds.ps registers-named-by.Kinds.r registers-named-by.Reads.Learnt
   pub isMrs : OneResult 0 registers-is-mrs.Kinds.ps registers-is-mrs.Kinds.r registers-is-mrs.Reads.Learnt
   pub rt : OneResult 0 registers-rt.Kinds.ps registers-rt.Kinds.r registers-rt.Reads.Learnt
+  pub wordOf : OneResult 0 registers-word-of.Kinds.ps registers-word-of.Kinds.r registers-word-of.Reads.Learnt
   pub facts : OneResult 0 gates-facts.Kinds.ps gates-facts.Kinds.r gates-facts.Reads.Learnt
   pub cnthctl : OneResult 0 gates-cnthctl.Kinds.ps gates-cnthctl.Kinds.r gates-cnthctl.Reads.Learnt
   pub el2On : OneResult 0 gates-el2-on.Kinds.ps gates-el2-on.Kinds.r gates-el2-on.Reads.Learnt

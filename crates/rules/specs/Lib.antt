@@ -20,4 +20,5 @@ pub mod Access
 pub mod Lines
 pub mod Packing
 pub mod Journal
+pub mod Syndromes
 pub mod Readings

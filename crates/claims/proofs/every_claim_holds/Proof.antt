@@ -13,6 +13,7 @@ use Rattle.claims.proofs.TwoMachines.{two-machines}
 use Rattle.claims.proofs.Impostors.{impostors-claim, trapped-is-needed}
 use Rattle.claims.proofs.Lease.{lease-claim}
 use Rattle.claims.proofs.LeaseExample.{lease-example}
+use Rattle.claims.proofs.Syndromes.{syndromes-and-words}
 use Rattle.claims.proofs.every_claim_holds.Statement.{statement}
 use Rattle.claims.proofs.every_claim_holds.Tie as tie
 
@@ -47,6 +48,7 @@ returns c =
     and impostors-claim
     and lease-claim
     and lease-example
+    and syndromes-and-words
 
 pub every-claim-holds-spec : {M : Type 1} → statement M
 every-claim-holds-spec = tie.close (tie.spec returns)
