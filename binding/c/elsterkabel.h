@@ -27,6 +27,10 @@
 extern "C" {
 #endif
 
+/* The interface that this header is of. A host holds it against elsterkabel_version() before any other call: where they
+   differ, so may the types below. */
+#define ELSTERKABEL_VERSION 1
+
 /* What an answer's number means. The state is as it was unless the number is 0. */
 enum elsterkabel_number {
     ELSTERKABEL_DONE = 0,
@@ -123,6 +127,13 @@ uint8_t elsterkabel_run_in(struct elsterkabel_state *state, const uint8_t *journ
 
 /* Which timer lines are raised at a physical count. The lines are written whole. */
 void elsterkabel_lines(const struct elsterkabel_state *state, uint64_t count, struct elsterkabel_lines *lines);
+
+/* The MRS or MSR word of a trap, from the syndrome of its exception of class 0x18: the low bits of ESR_ELx, of which
+   those above 21 do not count. A syndrome of another instruction gives a word that is answered with 4. */
+uint32_t elsterkabel_word_of(uint32_t iss);
+
+/* The interface that the archive is of. */
+uint32_t elsterkabel_version(void);
 
 #ifdef __cplusplus
 }

@@ -1,7 +1,7 @@
 /*
  * A trap handler over the answer desk. A guest's access to a timer register has trapped to the hypervisor with
- * exception class 0x18; the handler takes the word, the level, the operand register and the count, calls, and acts on
- * the number. `main` lets a guest arm its virtual timer for 50 ticks.
+ * exception class 0x18; the handler takes the word from the syndrome, the level, the operand register and the count,
+ * calls, and acts on the number. `main` lets a guest arm its virtual timer for 50 ticks.
  *
  *     tools/library "$(uname -m)"
  *     cc -Ibinding/c binding/c/trap_handler.c target/lib/$(uname -m)/libelsterkabel.a -o target/trap_handler
@@ -28,20 +28,30 @@ enum todo {
     IMPOSSIBLE_CONTEXT, /* the state or the level cannot be: the hypervisor's own mistake */
 };
 
-enum { XZR = 31 };
-
-/* The trapped instruction, put together again from the ISS of ESR_EL2. */
-static uint32_t word_of(uint32_t iss) {
-    uint32_t mrs = iss & 1, crm = iss >> 1 & 15, rt = iss >> 5 & 31, crn = iss >> 10 & 15;
-    uint32_t op1 = iss >> 14 & 7, op2 = iss >> 17 & 7, op0 = iss >> 20 & 3;
-    return 0xD5000000 | mrs << 21 | op0 << 19 | op1 << 16 | crn << 12 | crm << 8 | op2 << 5 | rt;
+static const char *words_for(enum todo todo) {
+    switch (todo) {
+    case RESUME:
+        return "resume";
+    case INJECT_UNDEFINED:
+        return "inject Undefined";
+    case INJECT_TRAP_TO_EL1:
+        return "inject a trap to EL1";
+    case TRAP_TO_EL2:
+        return "trap to EL2";
+    case NOT_A_TIMER:
+        return "ask another device";
+    default:
+        return "impossible context";
+    }
 }
+
+enum { XZR = 31 };
 
 static enum todo handle(struct guest *guest, uint32_t iss, uint8_t level, uint64_t count) {
     uint32_t rt = iss >> 5 & 31;
     bool mrs = iss & 1;
     uint64_t operand = rt == XZR ? 0 : guest->x[rt];
-    struct elsterkabel_access access = {word_of(iss), level, operand, count};
+    struct elsterkabel_access access = {elsterkabel_word_of(iss), level, operand, count};
     struct elsterkabel_answer answer;
     elsterkabel_access_in(&guest->timers, &access, &answer);
 
@@ -76,6 +86,12 @@ static const char *line_at(const struct guest *guest, uint64_t count) {
 }
 
 int main(void) {
+    if (elsterkabel_version() != ELSTERKABEL_VERSION) {
+        fprintf(stderr, "the archive is of interface %" PRIu32 ", and the header of %d\n", elsterkabel_version(),
+                ELSTERKABEL_VERSION);
+        return 1;
+    }
+
     /* A Non-secure guest whose physical counter and timer are trapped, with its virtual count 400 behind. */
     struct guest guest = {.timers = {.features = {.vhe = true, .sel2 = true},
                                      .controls = {.ns = true, .cntkctl = 0x303},
@@ -83,21 +99,22 @@ int main(void) {
     enum { EL1 = 1 };
 
     enum todo read_count = handle(&guest, iss_of(true, 3, 0, 2, 0), EL1, 1000);
-    printf("MRS X0, CNTVCT_EL0 at 1000: todo %d, X0 is %" PRIu64 "\n", read_count, guest.x[0]);
+    printf("MRS X0, CNTVCT_EL0 at 1000: %s, X0 is %" PRIu64 "\n", words_for(read_count), guest.x[0]);
 
     guest.x[1] = 50;
     enum todo set_value = handle(&guest, iss_of(false, 3, 3, 0, 1), EL1, 1000);
-    printf("MSR CNTV_TVAL_EL0, X1 at 1000: todo %d, CVAL is %" PRIu64 "\n", set_value, guest.timers.timers.cntv.cval);
+    printf("MSR CNTV_TVAL_EL0, X1 at 1000: %s, CVAL is %" PRIu64 "\n", words_for(set_value),
+           guest.timers.timers.cntv.cval);
 
     guest.x[2] = 1;
     enum todo enable = handle(&guest, iss_of(false, 3, 3, 1, 2), EL1, 1000);
-    printf("MSR CNTV_CTL_EL0, X2 at 1000: todo %d\n", enable);
+    printf("MSR CNTV_CTL_EL0, X2 at 1000: %s\n", words_for(enable));
 
     printf("the CNTV line at 1049: %s\n", line_at(&guest, 1049));
     printf("the CNTV line at 1050: %s\n", line_at(&guest, 1050));
 
     enum todo read_physical = handle(&guest, iss_of(true, 3, 0, 1, 3), EL1, 1050);
-    printf("MRS X3, CNTPCT_EL0 at 1050: todo %d, X3 is %" PRIu64 "\n", read_physical, guest.x[3]);
+    printf("MRS X3, CNTPCT_EL0 at 1050: %s, X3 is %" PRIu64 "\n", words_for(read_physical), guest.x[3]);
     printf("resumed %" PRIu64 " times\n", guest.pc / 4);
     return 0;
 }

@@ -4,6 +4,7 @@
 _start: bl      elsterkabel_access_in
         bl      elsterkabel_run_in
         bl      elsterkabel_lines
+        bl      elsterkabel_word_of
         bl      elsterkabel_version
 
         .globl  memcpy

@@ -1,4 +1,5 @@
-/* Sizes, alignments and offsets of each type of elsterkabel.h, in the words of the Rust binding's example `layout`. */
+/* The constants, and sizes, alignments and offsets of each type of elsterkabel.h, in the words of the Rust binding's
+ * example `layout`. */
 #include "elsterkabel.h"
 
 #include <stdalign.h>
@@ -17,6 +18,8 @@
 #define LINES(field) FIELD(Lines, elsterkabel_lines, field)
 
 int main(void) {
+    printf("VERSION %d\nRECORD_BYTES %d\nRECORD_LIMIT %d\n", ELSTERKABEL_VERSION, ELSTERKABEL_RECORD_BYTES,
+           ELSTERKABEL_RECORD_LIMIT);
     TYPE(Features, elsterkabel_features);
     FEATURES(vhe), FEATURES(sel2), FEATURES(ecv);
     TYPE(Controls, elsterkabel_controls);

@@ -109,6 +109,20 @@ static void refusals(void) {
     check("7 comes before 8", moves_nothing(ELSTERKABEL_BAD_JOURNAL, RECORD + 1, 0));
 }
 
+/* Reading 2's syndrome is the one that document 02 gives; the others are of the same fields by hand. */
+static void syndromes(void) {
+    check("the word of MRS X0, CNTPCT_EL0", elsterkabel_word_of(0x32F801) == 0xD53BE020);
+    check("the word of MSR CNTV_TVAL_EL0, X1", elsterkabel_word_of(0x30F826) == MSR_CNTV_TVAL_X1);
+    check("of a whole ESR_EL2, class and IL too", elsterkabel_word_of(0x6232F801) == 0xD53BE020);
+
+    struct elsterkabel_state state = start();
+    check("a SYS instruction's syndrome gets 4", answers_with(&state, elsterkabel_word_of(0x12F801), 1, 0, 4, 0, 0));
+}
+
+static void version(void) {
+    check("the archive is of the header's interface", elsterkabel_version() == ELSTERKABEL_VERSION);
+}
+
 int main(void) {
     for (size_t at = 0; at < sizeof journal; at += RECORD)
         memcpy(journal + at, RECORD_4, RECORD);
@@ -116,5 +130,7 @@ int main(void) {
     a_write();
     a_run();
     refusals();
+    syndromes();
+    version();
     return failed;
 }

@@ -1,9 +1,13 @@
-//! Prints how the types lie in memory, to be held against what C says of the header's. It calls
+//! Prints the constants and how the types lie in memory, to be held against what C says of the
+//! header's. It calls
 //! nothing, so that it links on any machine.
 
 use core::mem::{align_of, offset_of, size_of};
 
-use elsterkabel::{Access, Answer, Controls, Features, Lines, State, Timer, Timers};
+use elsterkabel::{
+    Access, Answer, Controls, Features, Lines, State, Timer, Timers, RECORD_BYTES, RECORD_LIMIT,
+    VERSION,
+};
 
 macro_rules! layout {
     ($name:ident: $($field:ident),+) => {
@@ -17,6 +21,9 @@ macro_rules! layout {
 }
 
 fn main() {
+    println!("VERSION {VERSION}");
+    println!("RECORD_BYTES {RECORD_BYTES}");
+    println!("RECORD_LIMIT {RECORD_LIMIT}");
     layout!(Features: vhe, sel2, ecv);
     layout!(Controls: ns, eel2, ecven, e2h, tge, cntkctl, cnthctl);
     layout!(Timer: cval, enable, imask);

@@ -1,12 +1,14 @@
 //! A trap handler over the answer desk. A guest's access to a timer register has trapped to the
-//! hypervisor with exception class 0x18; the handler takes the word, the level, the operand
-//! register and the count, calls, and acts on the number. `main` lets a guest arm its virtual
-//! timer for 50 ticks.
+//! hypervisor with exception class 0x18; the handler takes the word from the syndrome, the
+//! level, the operand register and the count, calls, and acts on the number. `main` lets a guest
+//! arm its virtual timer for 50 ticks.
 //!
 //!     tools/library "$(uname -m)"
 //!     cargo run -p elsterkabel --features link --example trap_handler
 
-use elsterkabel::{number, Access, Controls, Features, State};
+use std::process::ExitCode;
+
+use elsterkabel::{number, version, word_of, Access, Controls, Features, State, VERSION};
 
 /// What a hypervisor keeps of a guest. XZR, which is register 31, has no place.
 struct Guest {
@@ -29,14 +31,20 @@ enum Todo {
     ImpossibleContext,
 }
 
-const EL1: u8 = 1;
-
-/// The trapped instruction, put together again from the ISS of ESR_EL2.
-fn word_of(iss: u32) -> u32 {
-    let (mrs, crm, rt, crn) = (iss & 1, iss >> 1 & 15, iss >> 5 & 31, iss >> 10 & 15);
-    let (op1, op2, op0) = (iss >> 14 & 7, iss >> 17 & 7, iss >> 20 & 3);
-    0xD500_0000 | mrs << 21 | op0 << 19 | op1 << 16 | crn << 12 | crm << 8 | op2 << 5 | rt
+impl Todo {
+    fn words(self) -> &'static str {
+        match self {
+            Todo::Resume => "resume",
+            Todo::InjectUndefined => "inject Undefined",
+            Todo::InjectTrapToEl1 => "inject a trap to EL1",
+            Todo::TrapToEl2 => "trap to EL2",
+            Todo::NotATimer => "ask another device",
+            Todo::ImpossibleContext => "impossible context",
+        }
+    }
 }
+
+const EL1: u8 = 1;
 
 impl Guest {
     /// A Non-secure guest whose physical counter and timer are trapped, with its virtual count
@@ -105,27 +113,35 @@ fn iss_of(mrs: bool, op1: u32, crm: u32, op2: u32, rt: u32) -> u32 {
     3 << 20 | op2 << 17 | op1 << 14 | 14 << 10 | rt << 5 | crm << 1 | u32::from(mrs)
 }
 
-fn main() {
+fn main() -> ExitCode {
+    if version() != VERSION {
+        eprintln!(
+            "the archive is of interface {}, and the binding of {VERSION}",
+            version()
+        );
+        return ExitCode::FAILURE;
+    }
     let mut guest = Guest::new();
 
-    let todo = guest.handle(iss_of(true, 3, 0, 2, 0), EL1, 1000) as u8;
+    let todo = guest.handle(iss_of(true, 3, 0, 2, 0), EL1, 1000).words();
     let x0 = guest.x[0];
-    println!("MRS X0, CNTVCT_EL0 at 1000: todo {todo}, X0 is {x0}");
+    println!("MRS X0, CNTVCT_EL0 at 1000: {todo}, X0 is {x0}");
 
     guest.x[1] = 50;
-    let todo = guest.handle(iss_of(false, 3, 3, 0, 1), EL1, 1000) as u8;
+    let todo = guest.handle(iss_of(false, 3, 3, 0, 1), EL1, 1000).words();
     let cval = guest.timers.timers.cntv.cval;
-    println!("MSR CNTV_TVAL_EL0, X1 at 1000: todo {todo}, CVAL is {cval}");
+    println!("MSR CNTV_TVAL_EL0, X1 at 1000: {todo}, CVAL is {cval}");
 
     guest.x[2] = 1;
-    let todo = guest.handle(iss_of(false, 3, 3, 1, 2), EL1, 1000) as u8;
-    println!("MSR CNTV_CTL_EL0, X2 at 1000: todo {todo}");
+    let todo = guest.handle(iss_of(false, 3, 3, 1, 2), EL1, 1000).words();
+    println!("MSR CNTV_CTL_EL0, X2 at 1000: {todo}");
 
     println!("the CNTV line at 1049: {}", guest.line_at(1049));
     println!("the CNTV line at 1050: {}", guest.line_at(1050));
 
-    let todo = guest.handle(iss_of(true, 3, 0, 1, 3), EL1, 1050) as u8;
+    let todo = guest.handle(iss_of(true, 3, 0, 1, 3), EL1, 1050).words();
     let x3 = guest.x[3];
-    println!("MRS X3, CNTPCT_EL0 at 1050: todo {todo}, X3 is {x3}");
+    println!("MRS X3, CNTPCT_EL0 at 1050: {todo}, X3 is {x3}");
     println!("resumed {} times", guest.pc / 4);
+    ExitCode::SUCCESS
 }

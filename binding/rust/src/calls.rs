@@ -1,11 +1,11 @@
-//! The archive's functions, as methods of [`State`] that cannot be called wrongly.
+//! The archive's functions, as functions and methods of [`State`] that cannot be called wrongly.
 
 use crate::types::{Access, Answer, Lines, State};
 
 // Why what comes back is sound, for all: the signatures are those of binding/c/elsterkabel.h, the
 // tests hold the layout of the types against it, and each bool that is stored is 0 or 1, since the
 // language of the archive's source has no other.
-extern "C" {
+unsafe extern "C" {
     fn elsterkabel_access_in(state: *mut State, access: *const Access, answer: *mut Answer);
 
     fn elsterkabel_run_in(
@@ -17,6 +17,27 @@ extern "C" {
     ) -> u8;
 
     fn elsterkabel_lines(state: *const State, count: u64, lines: *mut Lines);
+
+    // Numbers in and out alone, so any call of the two is sound.
+    safe fn elsterkabel_word_of(iss: u32) -> u32;
+
+    safe fn elsterkabel_version() -> u32;
+}
+
+/// The MRS or MSR word of a trap, from the syndrome of its exception of class 0x18: the low bits of
+/// ESR_ELx, of which those above 21 do not count. A syndrome of another instruction gives a word
+/// that is answered with 4.
+#[inline]
+#[must_use]
+pub fn word_of(iss: u32) -> u32 {
+    elsterkabel_word_of(iss)
+}
+
+/// The interface that the archive is of.
+#[inline]
+#[must_use = "an archive of another interface is not to be called"]
+pub fn version() -> u32 {
+    elsterkabel_version()
 }
 
 impl State {

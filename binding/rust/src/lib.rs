@@ -27,7 +27,8 @@
 mod calls;
 mod types;
 
+pub use calls::{version, word_of};
 pub use types::{
     number, Access, Answer, Controls, Features, Lines, State, Timer, Timers, RECORD_BYTES,
-    RECORD_LIMIT,
+    RECORD_LIMIT, VERSION,
 };

@@ -18,6 +18,10 @@ pub mod number {
     pub const BUFFER_TOO_SHORT: u8 = 8;
 }
 
+/// The interface that these types are of. A host holds it against [`version`](crate::version)
+/// before any other call: where they differ, so may the types.
+pub const VERSION: u32 = 1;
+
 /// A journal's record and its answer have this many bytes.
 pub const RECORD_BYTES: usize = 24;
 

@@ -2,8 +2,8 @@
 //! that no journal can hold, and the lines. What is expected stands in docs/RULES.md.
 
 use elsterkabel::{
-    number, Access, Answer, Controls, Features, Lines, State, Timer, Timers, RECORD_BYTES,
-    RECORD_LIMIT,
+    number, version, word_of, Access, Answer, Controls, Features, Lines, State, Timer, Timers,
+    RECORD_BYTES, RECORD_LIMIT, VERSION,
 };
 
 const EL1: u8 = 1;
@@ -254,4 +254,22 @@ fn a_state_that_cannot_be_raises_no_line() {
         ..Lines::default()
     };
     assert_eq!(state.lines(1000), refused);
+}
+
+#[test]
+fn a_syndrome_gives_the_word() {
+    assert_eq!(word_of(0x0032_F801), MRS_CNTPCT);
+    assert_eq!(word_of(0x0030_F826), MSR_CNTV_TVAL);
+}
+
+#[test]
+fn a_syndrome_of_another_instruction_gets_4() {
+    let stranger = numbered(number::NOT_A_TIMER_ACCESS);
+    let sys = access(word_of(0x0012_F801), EL1, 0, 1000);
+    assert_eq!(bench().access(sys), stranger);
+}
+
+#[test]
+fn the_archive_is_of_the_bindings_interface() {
+    assert_eq!(version(), VERSION);
 }
