@@ -1,9 +1,9 @@
--- A syndrome and a word hold the same seven parts in other places. A part is found in its place, since all that stands below it is
+-- A syndrome and a word are two sums of the same seven parts. A part is found again in its place, since all that stands below it is
 -- less than its unit; and a number is the sum of its parts, each cut off in turn from what is left.
 -- Assumes nothing.
-use Prim.Native.Nat.{ℕ, _+_, _*_, _/_, _%_, _^_, _<_, _≤_}
-use mathlib.Core.Bool.{Bool, true, and-eq-true-iff}
-use mathlib.Core.Path.{_≡_, sym, ap, _∙_}
+use Prim.Native.Nat.{ℕ, _+_, _*_, _/_, _^_, _<_, _≤_}
+use mathlib.Core.Bool.{true, and-eq-true-iff}
+use mathlib.Core.Path.{_≡_, ap, _∙_}
 use native.Mathlib.Omega.{arith}
 use lib.Dec.{eqb}
 use borrow.Author.Tests.{eqb-true}
@@ -12,243 +12,180 @@ use Rattle.rules.specs.Names.{isMrsOrMsr, op0Of, op1Of, crnOf, crmOf, op2Of, rt
 use Rattle.rules.specs.Syndromes.{syndromeOf, wordOf}
 use Rattle.claims.specs.Syndromes.{SyndromesAndWords}
 
-abbrev syndrome : ℕ → ℕ → ℕ → ℕ → ℕ → ℕ → ℕ → ℕ
-syndrome op0 op2 op1 crn rt crm mrs = op0 * 2 ^ 20 + op2 * 2 ^ 17 + op1 * 2 ^ 14 + crn * 2 ^ 10 + rt * 2 ^ 5 + crm * 2 ^ 1 + mrs
+record Parts : Type 0 where
+  op0 : ℕ
+  op1 : ℕ
+  crn : ℕ
+  crm : ℕ
+  op2 : ℕ
+  rt : ℕ
+  mrs : ℕ
 
-abbrev instruction : ℕ → ℕ → ℕ → ℕ → ℕ → ℕ → ℕ → ℕ
-instruction mrs op0 op1 crn crm op2 rt =
-    0b1101010100 * 2 ^ 22 + mrs * 2 ^ 21 + op0 * 2 ^ 19 + op1 * 2 ^ 16 + crn * 2 ^ 12 + crm * 2 ^ 8 + op2 * 2 ^ 5 + rt
+abbrev parts : ℕ → ℕ → ℕ → ℕ → ℕ → ℕ → ℕ → Parts
+parts op0 op1 crn crm op2 rt mrs = record { op0 = op0; op1 = op1; crn = crn; crm = crm; op2 = op2; rt = rt; mrs = mrs }
 
--- ---- each part in its place
+-- `wordOf` is the word of a syndrome's parts, and `syndromeOf` the syndrome of a word's
+abbrev ofSyndrome : ℕ → Parts
+ofSyndrome iss = parts (bits 21 20 iss) (bits 16 14 iss) (bits 13 10 iss) (bits 4 1 iss) (bits 19 17 iss) (bits 9 5 iss) (bits 0 0 iss)
 
-module _
-    (op0 op2 op1 crn rt crm mrs : ℕ)
-    (a : op0 < 4)
-    (b : op2 < 8)
-    (c : op1 < 8)
-    (d : crn < 16)
-    (e : rt < 32)
-    (f : crm < 16)
-    (g : mrs < 2)
-  where
-    abbrev iss : ℕ
-    iss = syndrome op0 op2 op1 crn rt crm mrs
+abbrev ofWord : ℕ → Parts
+ofWord word = parts (op0Of word) (op1Of word) (crnOf word) (crmOf word) (op2Of word) (rtOf word) (bits 21 21 word)
 
-    abbrev word : ℕ
-    word = instruction mrs op0 op1 crn crm op2 rt
+abbrev syndrome : Parts → ℕ
+syndrome p = p .op0 * 2 ^ 20 + p .op2 * 2 ^ 17 + p .op1 * 2 ^ 14 + p .crn * 2 ^ 10 + p .rt * 2 ^ 5 + p .crm * 2 ^ 1 + p .mrs
 
-    its-op0 : bits 21 20 iss ≡ op0
-    its-op0 = omega arith
+abbrev word : Parts → ℕ
+word p =
+    0b1101010100 * 2 ^ 22
+    + p .mrs * 2 ^ 21
+    + p .op0 * 2 ^ 19
+    + p .op1 * 2 ^ 16
+    + p .crn * 2 ^ 12
+    + p .crm * 2 ^ 8
+    + p .op2 * 2 ^ 5
+    + p .rt
 
-    its-op2 : bits 19 17 iss ≡ op2
-    its-op2 = omega arith
+-- ---- a part is found again in its place
 
-    its-op1 : bits 16 14 iss ≡ op1
-    its-op1 = omega arith
+record Fit (p : Parts) : Type 0 where
+  op0 : p .op0 < 4
+  op1 : p .op1 < 8
+  crn : p .crn < 16
+  crm : p .crm < 16
+  op2 : p .op2 < 8
+  rt : p .rt < 32
+  mrs : p .mrs < 2
 
-    its-crn : bits 13 10 iss ≡ crn
-    its-crn = omega arith
+same :
+    {a0 b0 a1 b1 a2 b2 a3 b3 a4 b4 a5 b5 a6 b6 : ℕ} →
+    (a0 ≡ b0) × (a1 ≡ b1) × (a2 ≡ b2) × (a3 ≡ b3) × (a4 ≡ b4) × (a5 ≡ b5) × (a6 ≡ b6) →
+    parts a0 a1 a2 a3 a4 a5 a6 ≡ parts b0 b1 b2 b3 b4 b5 b6
+same (h0, h1, h2, h3, h4, h5, h6) = cc
 
-    its-rt : bits 9 5 iss ≡ rt
-    its-rt = omega arith
+module _ (p : Parts) (fit : Fit p) where
+  found-in-syndrome : ofSyndrome (syndrome p) ≡ p
+  found-in-syndrome = same (omega arith, omega arith, omega arith, omega arith, omega arith, omega arith, omega arith)
 
-    its-crm : bits 4 1 iss ≡ crm
-    its-crm = omega arith
+  found-in-word : 2 ≤ p .op0 → ofWord (word p) ≡ p
+  found-in-word h = same (omega arith, omega arith, omega arith, omega arith, omega arith, omega arith, omega arith)
 
-    its-mrs : bits 0 0 iss ≡ mrs
-    its-mrs = omega arith
+  bits-31-to-22 : bits 31 22 (word p) ≡ 0b1101010100
+  bits-31-to-22 = omega arith
 
-    word-of-syndrome : wordOf iss ≡ word
-    word-of-syndrome = rw (its-op0, its-op2, its-op1, its-crn, its-rt, its-crm, its-mrs)
+  bit-20 : bits 20 20 (word p) ≡ p .op0 / 2
+  bit-20 = omega arith
 
-    word's-op0 : 2 ≤ op0 → op0Of word ≡ op0
-    word's-op0 h = omega arith
+syndrome's-fit : (iss : ℕ) → Fit (ofSyndrome iss)
+syndrome's-fit iss =
+    record {
+      op0 = omega arith;
+      op1 = omega arith;
+      crn = omega arith;
+      crm = omega arith;
+      op2 = omega arith;
+      rt = omega arith;
+      mrs = omega arith;
+    }
 
-    word's-op2 : op2Of word ≡ op2
-    word's-op2 = omega arith
+word's-fit : (w : ℕ) → Fit (ofWord w)
+word's-fit w =
+    record {
+      op0 = omega arith;
+      op1 = omega arith;
+      crn = omega arith;
+      crm = omega arith;
+      op2 = omega arith;
+      rt = omega arith;
+      mrs = omega arith;
+    }
 
-    word's-op1 : op1Of word ≡ op1
-    word's-op1 = omega arith
+-- ---- a number is the sum of its parts
 
-    word's-crn : crnOf word ≡ crn
-    word's-crn = omega arith
-
-    word's-rt : rtOf word ≡ rt
-    word's-rt = omega arith
-
-    word's-crm : crmOf word ≡ crm
-    word's-crm = omega arith
-
-    word's-mrs : bits 21 21 word ≡ mrs
-    word's-mrs = omega arith
-
-    syndrome-of-word : 2 ≤ op0 → syndromeOf word ≡ iss
-    syndrome-of-word h = rw (word's-op0 h, word's-op2, word's-op1, word's-crn, word's-rt, word's-crm, word's-mrs)
-
-    word's-fixed : bits 31 22 word ≡ 0b1101010100
-    word's-fixed = omega arith
-
-    word's-bit-20 : bits 20 20 word ≡ op0 / 2
-    word's-bit-20 = omega arith
-
--- ---- a number as the sum of its parts
-
-module _ (word : ℕ) where
-  rt-off : word ≡ word / 2 ^ 5 * 2 ^ 5 + bits 4 0 word
-  rt-off = omega arith
-
-  op2-off : word / 2 ^ 5 ≡ word / 2 ^ 8 * 2 ^ 3 + bits 7 5 word
-  op2-off = omega arith
-
-  crm-off : word / 2 ^ 8 ≡ word / 2 ^ 12 * 2 ^ 4 + bits 11 8 word
-  crm-off = omega arith
-
-  crn-off : word / 2 ^ 12 ≡ word / 2 ^ 16 * 2 ^ 4 + bits 15 12 word
-  crn-off = omega arith
-
-  op1-off : word / 2 ^ 16 ≡ word / 2 ^ 19 * 2 ^ 3 + bits 18 16 word
-  op1-off = omega arith
-
-  op0-off : bits 20 20 word ≡ 1 → word / 2 ^ 19 ≡ word / 2 ^ 21 * 2 ^ 2 + op0Of word
-  op0-off h = omega arith
-
-  mrs-off : word / 2 ^ 21 ≡ word / 2 ^ 22 * 2 ^ 1 + bits 21 21 word
-  mrs-off = omega arith
-
-  fixed-left : word < 2 ^ 32 → bits 31 22 word ≡ 0b1101010100 → word / 2 ^ 22 ≡ 0b1101010100
-  fixed-left below h = omega arith
-
-instruction-adds-up :
-    (w0 w5 w8 w12 w16 w19 w21 w22 rt op2 crm crn op1 op0 mrs : ℕ) →
-    w0 ≡ w5 * 2 ^ 5 + rt →
-    w5 ≡ w8 * 2 ^ 3 + op2 →
-    w8 ≡ w12 * 2 ^ 4 + crm →
-    w12 ≡ w16 * 2 ^ 4 + crn →
-    w16 ≡ w19 * 2 ^ 3 + op1 →
-    w19 ≡ w21 * 2 ^ 2 + op0 →
-    w21 ≡ w22 * 2 ^ 1 + mrs →
-    w22 ≡ 0b1101010100 →
-    instruction mrs op0 op1 crn crm op2 rt ≡ w0
-instruction-adds-up _ _ _ _ _ _ _ _ _ _ _ _ _ _ _ a b c d e f g h = omega arith
-
-word-is : (word : ℕ) → word < 2 ^ 32 → isMrsOrMsr word ≡ true → instruction (bits 21 21 word) (op0Of word) (op1Of word) (crnOf word) (crmOf word) (op2Of word) (rtOf word) ≡ word
-word-is word below h =
-    let both : (eqb (bits 31 22 word) 0b1101010100 ≡ true) × (bit 20 word ≡ true) = and-eq-true-iff _ _ .0 h in
-    instruction-adds-up _ _ _ _ _ _ _ _ _ _ _ _ _ _ _
-    (rt-off word)
-    (op2-off word)
-    (crm-off word)
-    (crn-off word)
-    (op1-off word)
-    (op0-off word (eqb-true _ _ (both .1)))
-    (mrs-off word)
-    (fixed-left word below (eqb-true _ _ (both .0)))
-
-module _ (iss : ℕ) where
-  mrs-off-iss : iss ≡ iss / 2 ^ 1 * 2 ^ 1 + bits 0 0 iss
-  mrs-off-iss = omega arith
-
-  crm-off-iss : iss / 2 ^ 1 ≡ iss / 2 ^ 5 * 2 ^ 4 + bits 4 1 iss
-  crm-off-iss = omega arith
-
-  rt-off-iss : iss / 2 ^ 5 ≡ iss / 2 ^ 10 * 2 ^ 5 + bits 9 5 iss
-  rt-off-iss = omega arith
-
-  crn-off-iss : iss / 2 ^ 10 ≡ iss / 2 ^ 14 * 2 ^ 4 + bits 13 10 iss
-  crn-off-iss = omega arith
-
-  op1-off-iss : iss / 2 ^ 14 ≡ iss / 2 ^ 17 * 2 ^ 3 + bits 16 14 iss
-  op1-off-iss = omega arith
-
-  op2-off-iss : iss / 2 ^ 17 ≡ iss / 2 ^ 20 * 2 ^ 3 + bits 19 17 iss
-  op2-off-iss = omega arith
-
-  op0-left : iss < 2 ^ 22 → iss / 2 ^ 20 ≡ bits 21 20 iss
-  op0-left below = omega arith
-
+-- what is left of a syndrome from place 1, 5, 10, 14, 17 and 20 on
 syndrome-adds-up :
-    (i0 i1 i5 i10 i14 i17 i20 mrs crm rt crn op1 op2 op0 : ℕ) →
-    i0 ≡ i1 * 2 ^ 1 + mrs →
-    i1 ≡ i5 * 2 ^ 4 + crm →
-    i5 ≡ i10 * 2 ^ 5 + rt →
-    i10 ≡ i14 * 2 ^ 4 + crn →
-    i14 ≡ i17 * 2 ^ 3 + op1 →
-    i17 ≡ i20 * 2 ^ 3 + op2 →
-    i20 ≡ op0 →
-    syndrome op0 op2 op1 crn rt crm mrs ≡ i0
-syndrome-adds-up _ _ _ _ _ _ _ _ _ _ _ _ _ _ a b c d e f g = omega arith
+    (p : Parts) (i i1 i5 i10 i14 i17 i20 : ℕ) →
+    i ≡ i1 * 2 ^ 1 + p .mrs →
+    i1 ≡ i5 * 2 ^ 4 + p .crm →
+    i5 ≡ i10 * 2 ^ 5 + p .rt →
+    i10 ≡ i14 * 2 ^ 4 + p .crn →
+    i14 ≡ i17 * 2 ^ 3 + p .op1 →
+    i17 ≡ i20 * 2 ^ 3 + p .op2 →
+    i20 ≡ p .op0 →
+    syndrome p ≡ i
+syndrome-adds-up p i i1 i5 i10 i14 i17 i20 a b c d e f g = omega arith
 
-iss-is : (iss : ℕ) → iss < 2 ^ 22 → syndrome (bits 21 20 iss) (bits 19 17 iss) (bits 16 14 iss) (bits 13 10 iss) (bits 9 5 iss) (bits 4 1 iss) (bits 0 0 iss) ≡ iss
-iss-is iss below =
-    syndrome-adds-up _ _ _ _ _ _ _ _ _ _ _ _ _ _
-    (mrs-off-iss iss)
-    (crm-off-iss iss)
-    (rt-off-iss iss)
-    (crn-off-iss iss)
-    (op1-off-iss iss)
-    (op2-off-iss iss)
-    (op0-left iss below)
+is-syndrome : (iss : ℕ) → iss < 2 ^ 22 → syndrome (ofSyndrome iss) ≡ iss
+is-syndrome iss below =
+    syndrome-adds-up
+    (ofSyndrome iss)
+    iss
+    (iss / 2 ^ 1)
+    (iss / 2 ^ 5)
+    (iss / 2 ^ 10)
+    (iss / 2 ^ 14)
+    (iss / 2 ^ 17)
+    (iss / 2 ^ 20)
+    (omega arith)
+    (omega arith)
+    (omega arith)
+    (omega arith)
+    (omega arith)
+    (omega arith)
+    (omega arith)
+
+-- what is left of a word from place 5, 8, 12, 16, 19, 21 and 22 on
+word-adds-up :
+    (p : Parts) (w w5 w8 w12 w16 w19 w21 w22 : ℕ) →
+    w ≡ w5 * 2 ^ 5 + p .rt →
+    w5 ≡ w8 * 2 ^ 3 + p .op2 →
+    w8 ≡ w12 * 2 ^ 4 + p .crm →
+    w12 ≡ w16 * 2 ^ 4 + p .crn →
+    w16 ≡ w19 * 2 ^ 3 + p .op1 →
+    w19 ≡ w21 * 2 ^ 2 + p .op0 →
+    w21 ≡ w22 * 2 ^ 1 + p .mrs →
+    w22 ≡ 0b1101010100 →
+    word p ≡ w
+word-adds-up p w w5 w8 w12 w16 w19 w21 w22 a b c d e f g h = omega arith
+
+is-word : (w : ℕ) → w < 2 ^ 32 → bits 31 22 w ≡ 0b1101010100 → bits 20 20 w ≡ 1 → word (ofWord w) ≡ w
+is-word w below fixed one =
+    word-adds-up
+    (ofWord w)
+    w
+    (w / 2 ^ 5)
+    (w / 2 ^ 8)
+    (w / 2 ^ 12)
+    (w / 2 ^ 16)
+    (w / 2 ^ 19)
+    (w / 2 ^ 21)
+    (w / 2 ^ 22)
+    (omega arith)
+    (omega arith)
+    (omega arith)
+    (omega arith)
+    (omega arith)
+    (omega arith)
+    (omega arith)
+    (omega arith)
 
 -- ---- the claim
 
-word-back : (word : ℕ) → word < 2 ^ 32 → isMrsOrMsr word ≡ true → wordOf (syndromeOf word) ≡ word
-word-back word below h =
-    word-of-syndrome
-    (op0Of word)
-    (op2Of word)
-    (op1Of word)
-    (crnOf word)
-    (rtOf word)
-    (crmOf word)
-    (bits 21 21 word)
-    (omega arith)
-    (omega arith)
-    (omega arith)
-    (omega arith)
-    (omega arith)
-    (omega arith)
-    (omega arith)
-    ∙ word-is word below h
+word-back : (w : ℕ) → w < 2 ^ 32 → isMrsOrMsr w ≡ true → wordOf (syndromeOf w) ≡ w
+word-back w below h =
+    let both : (eqb (bits 31 22 w) 0b1101010100 ≡ true) × (bit 20 w ≡ true) = and-eq-true-iff _ _ .0 h in
+    ap word (found-in-syndrome (ofWord w) (word's-fit w)) ∙ is-word w below (eqb-true _ _ (both .0)) (eqb-true _ _ (both .1))
 
-module _ (iss : ℕ) where
-  abbrev op0 : ℕ
-  op0 = bits 21 20 iss
+syndrome-back : (iss : ℕ) → iss < 2 ^ 22 → bit 21 iss ≡ true → syndromeOf (wordOf iss) ≡ iss
+syndrome-back iss below h =
+    let one : bits 21 21 iss ≡ 1 = eqb-true _ _ h in
+    ap syndrome (found-in-word (ofSyndrome iss) (syndrome's-fit iss) (omega arith)) ∙ is-syndrome iss below
 
-  abbrev op2 : ℕ
-  op2 = bits 19 17 iss
-
-  abbrev op1 : ℕ
-  op1 = bits 16 14 iss
-
-  abbrev crn : ℕ
-  crn = bits 13 10 iss
-
-  abbrev rt : ℕ
-  rt = bits 9 5 iss
-
-  abbrev crm : ℕ
-  crm = bits 4 1 iss
-
-  abbrev mrs : ℕ
-  mrs = bits 0 0 iss
-
-  -- what holds of seven parts that fit their places holds of these
-  fitting : {A : Type 0} → (op0 < 4 → op2 < 8 → op1 < 8 → crn < 16 → rt < 32 → crm < 16 → mrs < 2 → A) → A
-  fitting law = law (omega arith) (omega arith) (omega arith) (omega arith) (omega arith) (omega arith) (omega arith)
-
-  syndrome-back : iss < 2 ^ 22 → bit 21 iss ≡ true → syndromeOf (wordOf iss) ≡ iss
-  syndrome-back below h =
-      let high : bits 21 21 iss ≡ 1 = eqb-true _ _ h in
-      fitting (syndrome-of-word op0 op2 op1 crn rt crm mrs) (omega arith) ∙ iss-is iss below
-
-  fixed : bits 31 22 (wordOf iss) ≡ 0b1101010100
-  fixed = fitting (word's-fixed op0 op2 op1 crn rt crm mrs)
-
-  bit-20 : bits 20 20 (wordOf iss) ≡ bits 21 21 iss
-  bit-20 = fitting (word's-bit-20 op0 op2 op1 crn rt crm mrs) ∙ omega arith
-
-  mrs-or-msr : isMrsOrMsr (wordOf iss) ≡ bit 21 iss
-  mrs-or-msr = rw (fixed, bit-20)
+mrs-or-msr : (iss : ℕ) → isMrsOrMsr (wordOf iss) ≡ bit 21 iss
+mrs-or-msr iss =
+    let higher : bits 21 20 iss / 2 ≡ bits 21 21 iss = omega arith in
+    let fixed : bits 31 22 (wordOf iss) ≡ 0b1101010100 = bits-31-to-22 (ofSyndrome iss) (syndrome's-fit iss) in
+    let one : bits 20 20 (wordOf iss) ≡ bits 21 21 iss = bit-20 (ofSyndrome iss) (syndrome's-fit iss) ∙ higher in
+    rw (fixed, one)
 
 pub syndromes-and-words : SyndromesAndWords
 syndromes-and-words = record { wordBack = word-back; syndromeBack = syndrome-back; mrsOrMsr = mrs-or-msr }

@@ -8,9 +8,6 @@ use Rattle.rules.specs.Names.{lookUp, nameTable}
 use Rattle.registers.proofs.Walk.{foundFrom, found, passed, ended}
 use Rattle.registers.proofs.register.Register.look_up.Statement.{statement}
 use Rattle.registers.proofs.register.Register.look_up.Tie as tie
-use Rattle.registers.proofs.register.Register.look_up.Reads as reads
-use Rattle.registers.proofs.register.Register.look_up.Lts as lts
-use Rattle.registers.proofs.register.Register.is_named_by.Reads as is-named-by-reads
 
 abbrev Inv-loop : tie.InvT-loop
 Inv-loop word all i₀ i =
