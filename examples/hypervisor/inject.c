@@ -1,4 +1,4 @@
-/* An exception that the guest takes at its EL1, as the core would have given it. */
+/* An exception that the guest takes at its EL1, as a core of Armv8.0 gives it; later ones have more PSTATE to keep. */
 #include "core.h"
 #include "hypervisor.h"
 
@@ -19,9 +19,9 @@ static uint64_t vector_offset(uint64_t pstate) {
     }
 }
 
-static void inject(struct guest *guest, enum exception_class class, uint32_t iss) {
+static void inject(struct guest *guest, enum exception_class reason, uint32_t iss) {
     const uint32_t of_32_bits = 1u << 25;
-    write_register(ESR_EL1, (uint32_t) class << 26 | of_32_bits | iss);
+    write_register(ESR_EL1, (uint32_t)reason << 26 | of_32_bits | iss);
     write_register(ELR_EL1, guest->pc);
     write_register(SPSR_EL1, guest->pstate);
     guest->pc = read_register(VBAR_EL1) + vector_offset(guest->pstate);

@@ -41,18 +41,18 @@ static const char *attempt_of(uint64_t which) {
 }
 
 static void tell_syndrome(uint64_t syndrome) {
-    uint64_t class = syndrome >> 26 & 0x3F;
+    uint64_t reason = syndrome >> 26 & 0x3F;
     uint32_t word = elsterkabel_word_of((uint32_t)syndrome);
     if (syndrome == NOTHING_CAME) {
         say("it got through");
-    } else if (class == UNKNOWN_REASON) {
+    } else if (reason == UNKNOWN_REASON) {
         say("Undefined");
-    } else if (class == SYSTEM_REGISTER) {
+    } else if (reason == SYSTEM_REGISTER) {
         say(is_read(word) ? "a trap of MRS " : "a trap of MSR ");
         say(name_of(word));
     } else {
         say("an exception of class ");
-        say_hex(class);
+        say_hex(reason);
     }
 }
 

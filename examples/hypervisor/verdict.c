@@ -45,8 +45,10 @@ static bool find_steps(const struct event *steps[STEPS]) {
 /* A TVAL is a signed number of 32 bits. */
 static int64_t ticks_of(const struct event *taken) { return (int32_t)taken->second; }
 
-/* What TVAL read is what was left. */
-static bool readings_are_right(uint64_t deadline) {
+/* What TVAL read is what was left. The last reading is the guest's own word too, right after it. */
+static bool readings_are_right(uint64_t deadline, const struct event *interrupted) {
+    if (interrupted->second != (interrupted - 1)->second)
+        return false;
     for (const struct event *event = first_event(); event < past_last_event(); event++) {
         if (is_access(event, CNTV_TVAL_EL0, true) && event->second != deadline - event->count)
             return false;
@@ -99,7 +101,7 @@ static bool lease_is_right(const struct event *const steps[STEPS], uint64_t cntv
     say(right ? "\nthe interrupt came at or after the deadline, and never before\n"
               : "\nthe interrupt came too EARLY\n");
 
-    bool readings = readings_are_right(deadline);
+    bool readings = readings_are_right(deadline, steps[INTERRUPTED]);
     say(readings ? "" : "TVAL did NOT read what was left\n");
     return right && readings;
 }
