@@ -1,0 +1,120 @@
+/* Whether all went as it should, by the log alone: what had to happen did, once and in its order, and never early. */
+#include "guest/calls.h"
+#include "hypervisor.h"
+#include "words.h"
+
+/* The lease in its steps. Reads of the guest and the hypervisor's own timer stand between them. */
+enum step { TAKEN, TURNED_ON, WENT_UP, INTERRUPTED, GIVEN_BACK, WENT_DOWN, STEPS, NO_STEP };
+
+static bool is_access(const struct event *event, uint32_t to, bool read) {
+    uint32_t word = (uint32_t)event->first;
+    return event->what == ACCESS_DONE && register_of(word) == to && is_read(word) == read;
+}
+
+static enum step step_of(const struct event *event) {
+    if (is_access(event, CNTV_TVAL_EL0, false))
+        return TAKEN;
+    if (is_access(event, CNTV_CTL_EL0, false))
+        return event->second == 1 ? TURNED_ON : GIVEN_BACK;
+    switch (event->what) {
+    case LINE_UP:
+        return WENT_UP;
+    case GUEST_INTERRUPTED:
+        return INTERRUPTED;
+    case LINE_DOWN:
+        return WENT_DOWN;
+    default:
+        return NO_STEP;
+    }
+}
+
+/* Each step once, and in its order. */
+static bool find_steps(const struct event *steps[STEPS]) {
+    size_t found = 0;
+    for (const struct event *event = first_event(); event < past_last_event(); event++) {
+        enum step step = step_of(event);
+        if (step == NO_STEP)
+            continue;
+        if (step != found)
+            return false;
+        steps[found++] = event;
+    }
+    return found == STEPS;
+}
+
+/* A TVAL is a signed number of 32 bits. */
+static int64_t ticks_of(const struct event *taken) { return (int32_t)taken->second; }
+
+/* What TVAL read is what was left. The last reading is the guest's own word too, right after it. */
+static bool readings_are_right(uint64_t deadline, const struct event *interrupted) {
+    if (interrupted->second != (interrupted - 1)->second)
+        return false;
+    for (const struct event *event = first_event(); event < past_last_event(); event++) {
+        if (is_access(event, CNTV_TVAL_EL0, true) && event->second != deadline - event->count)
+            return false;
+    }
+    return true;
+}
+
+/* Every attempt, in the order of the list, and Undefined came of each. */
+static bool attempts_failed(const struct event *lease_over) {
+#define ONE(name, instruction) +1
+    const uint64_t attempts = 0 ATTEMPTS(ONE);
+    uint64_t tried = 0, undefined = 0;
+    for (const struct event *event = lease_over; event < past_last_event(); event++) {
+        if (event->what != GUEST_TRIED || event->first != tried)
+            continue;
+        tried++;
+        undefined += event->second >> 26 == 0;
+    }
+    say("of ");
+    say_number(attempts);
+    say(" things that it may not touch the guest tried ");
+    say_number(tried);
+    say(", and Undefined came of ");
+    say_number(undefined);
+    say("\n");
+    return tried == attempts && undefined == attempts;
+}
+
+/* Whether it is not before the deadline. */
+static bool say_when(const char *what, int64_t after) {
+    say(what);
+    say_number(after < 0 ? 0 - (uint64_t)after : (uint64_t)after);
+    say(after < 0 ? " ticks BEFORE the deadline" : " ticks after the deadline");
+    return after >= 0;
+}
+
+static bool lease_is_right(const struct event *const steps[STEPS], uint64_t cntvoff) {
+    uint64_t deadline = steps[TAKEN]->count + (uint64_t)ticks_of(steps[TAKEN]);
+    bool by_own_timer = (steps[WENT_UP] - 1)->what == OWN_TIMER;
+
+    say("lease of ");
+    say_signed(ticks_of(steps[TAKEN]));
+    say(" ticks from ");
+    say_number(steps[TAKEN]->count - cntvoff);
+    say(" on: the deadline is ");
+    say_number(deadline - cntvoff);
+    bool right = say_when("\nthe line went up ", (int64_t)(steps[WENT_UP]->count - deadline));
+    say(by_own_timer ? ", by the hypervisor's own timer" : ", at an access of the guest");
+    right &= say_when("\nthe guest was interrupted ", (int64_t)(steps[INTERRUPTED]->first + cntvoff - deadline));
+    say(right ? "\nthe interrupt came at or after the deadline, and never before\n"
+              : "\nthe interrupt came too EARLY\n");
+
+    bool readings = readings_are_right(deadline, steps[INTERRUPTED]);
+    say(readings ? "" : "TVAL did NOT read what was left\n");
+    return right && readings;
+}
+
+bool went_as_expected(const struct guest *guest) {
+    const struct event *steps[STEPS];
+    say("\n");
+    if (!find_steps(steps)) {
+        say("the lease did NOT go its way\n");
+        return false;
+    }
+    bool lease = lease_is_right(steps, guest->timers.cntvoff);
+    bool attempts = attempts_failed(steps[WENT_DOWN]);
+    say(lease && attempts ? "all as expected\n" : "NOT as expected\n");
+    return lease && attempts;
+}
