@@ -3,10 +3,12 @@
 use std::fmt;
 
 use crate::answer::Answer;
+use crate::fields::changes;
 use crate::image::{ImageError, IMAGE_BYTES};
 use crate::record::{Record, RECORD_BYTES};
 use crate::state::State;
 use crate::words;
+use crate::written::Written;
 
 /// Why bytes cannot be shown.
 #[derive(Clone, Debug, PartialEq, Eq)]
@@ -24,6 +26,11 @@ pub enum Unshowable {
     /// A state image of another length.
     ImageLength(usize),
     Image(ImageError),
+    /// What probe wrote has another length than is due.
+    Written {
+        found: usize,
+        due: usize,
+    },
 }
 
 impl fmt::Display for Unshowable {
@@ -41,6 +48,9 @@ impl fmt::Display for Unshowable {
                 write!(f, "the state image has {length} bytes, not {IMAGE_BYTES}")
             }
             Unshowable::Image(error) => write!(f, "the state image is damaged: {error}"),
+            Unshowable::Written { found, due } => {
+                write!(f, "probe wrote {found} bytes where {due} were due")
+            }
         }
     }
 }
@@ -88,16 +98,19 @@ pub fn side_by_side(journal: &[u8], answers: &[u8]) -> Result<String, Unshowable
     )))
 }
 
-/// A state image, one field a line.
+/// A state image as the text that packs to it.
 pub fn state(image: &[u8]) -> Result<String, Unshowable> {
-    let image = image
-        .try_into()
-        .map_err(|_| Unshowable::ImageLength(image.len()))?;
-    let state = State::from_image(image).map_err(Unshowable::Image)?;
-    let fields = words::state(&state).into_iter();
-    Ok(lines(
-        fields.map(|(name, value)| format!("{name}: {value}")),
-    ))
+    Ok(words::state_text(&State::of_bytes(image)?))
+}
+
+/// How a run ends: what `probe` wrote on a state and a journal, but for the answers.
+pub fn end(image: &[u8], journal: &[u8], written: &[u8]) -> Result<String, Unshowable> {
+    let first = State::of_bytes(image)?;
+    let records = records_of(journal, "journal")?;
+    let last = Written::of(written, records.len())?;
+    let count = records.last().map(|record| Record::unpack(record).count);
+    let differs = words::changes(&changes(&first, &last.state));
+    Ok(differs + &words::lines(&last.lines, count.unwrap_or_default()))
 }
 
 fn records_of<'a>(
