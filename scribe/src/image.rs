@@ -43,7 +43,7 @@ impl State {
     }
 
     /// The state of an image, whatever its length is.
-    pub(crate) fn of_bytes(bytes: &[u8]) -> Result<State, Unshowable> {
+    pub fn of_bytes(bytes: &[u8]) -> Result<State, Unshowable> {
         let length = Unshowable::ImageLength(bytes.len());
         let image = bytes.try_into().map_err(|_| length)?;
         State::from_image(image).map_err(Unshowable::Image)

@@ -17,6 +17,7 @@ mod register;
 pub mod show;
 mod state;
 mod text;
+pub mod timeline;
 pub mod words;
 mod written;
 

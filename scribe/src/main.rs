@@ -2,6 +2,7 @@
 
 mod files;
 mod show_files;
+mod timeline_files;
 
 use std::env;
 use std::process::ExitCode;
@@ -10,6 +11,7 @@ use scribe::RECORD_LIMIT;
 
 use files::{entries, read, read_text, state, write_out, Failure};
 use show_files::{end, show_files};
+use timeline_files::timeline;
 
 fn main() -> ExitCode {
     let arguments: Vec<String> = env::args().skip(1).collect();
@@ -37,6 +39,7 @@ fn output_of(arguments: &[&str]) -> Result<Vec<u8>, Failure> {
         ["kind"] => kind("-"),
         ["kind", file] if !file.starts_with("--") => kind(file),
         ["end", state, journal, written] => end(state, journal, written),
+        ["timeline", options @ ..] => timeline(options),
         ["show"] => Err(Failure::Usage("nothing to show".to_string())),
         ["show", options @ ..] => show_files(options),
         [] => Err(Failure::Usage("a command is missing".to_string())),

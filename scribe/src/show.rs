@@ -57,12 +57,7 @@ impl fmt::Display for Unshowable {
 
 /// The records of a journal, one a line.
 pub fn journal(journal: &[u8]) -> Result<String, Unshowable> {
-    let records = records_of(journal, "journal")?;
-    Ok(lines(
-        records
-            .iter()
-            .map(|bytes| words::record(&Record::unpack(bytes))),
-    ))
+    Ok(lines(records(journal)?.iter().map(words::record)))
 }
 
 /// The answers of a log, one a line.
@@ -106,11 +101,17 @@ pub fn state(image: &[u8]) -> Result<String, Unshowable> {
 /// How a run ends: what `probe` wrote on a state and a journal, but for the answers.
 pub fn end(image: &[u8], journal: &[u8], written: &[u8]) -> Result<String, Unshowable> {
     let first = State::of_bytes(image)?;
-    let records = records_of(journal, "journal")?;
+    let records = records(journal)?;
     let last = Written::of(written, records.len())?;
-    let count = records.last().map(|record| Record::unpack(record).count);
+    let count = records.last().map(|record| record.count);
     let differs = words::changes(&changes(&first, &last.state));
     Ok(differs + &words::lines(&last.lines, count.unwrap_or_default()))
+}
+
+/// The records of a journal.
+pub fn records(journal: &[u8]) -> Result<Vec<Record>, Unshowable> {
+    let records = records_of(journal, "journal")?;
+    Ok(records.iter().map(Record::unpack).collect())
 }
 
 fn records_of<'a>(

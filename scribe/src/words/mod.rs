@@ -8,5 +8,9 @@ mod state;
 
 pub use answer::{answer, lone_answer};
 pub use end::{changes, lines};
+pub(crate) use number::number;
 pub use record::record;
 pub use state::{state, state_text};
+
+/// What fits a terminal.
+pub(crate) const COLUMNS: usize = 80;

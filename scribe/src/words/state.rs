@@ -5,9 +5,7 @@ use crate::fields::{arm_name, registers, FieldName};
 use crate::state::State;
 
 use super::number::number;
-
-/// What fits a terminal.
-const COLUMNS: usize = 80;
+use super::COLUMNS;
 
 /// The registers of a state in the order of its image, as Arm calls them, with what they hold.
 pub fn state(state: &State) -> Vec<(&'static str, String)> {

@@ -1,0 +1,184 @@
+//! The timeline as a picture: a column for each moment, time going right, and a track for each line.
+//!
+//! The columns are evenly spaced, since a lease may be a few ticks at a count of twenty digits. As
+//! many as fit stand in a band, and the bands stand one below the other.
+
+use crate::words::number;
+use crate::written::Lines;
+
+use super::labels::{
+    drawn, left, moved_of, records, turned, tval, virtual_count, with_lines_before,
+};
+use super::moments::{Cause, Moment};
+use super::svg::Svg;
+use super::track::Track;
+
+const WIDTH: usize = 880;
+const MARGIN: usize = 16;
+/// Where the names of the rows end and the columns begin.
+const LEFT: usize = 96;
+const ROW: usize = 18;
+const NARROWEST: usize = 64;
+/// What is left free between two columns.
+const BETWEEN: usize = 13;
+
+/// The registers that shift a count, and with it the deadlines.
+const OFFSETS: [&str; 2] = ["CNTVOFF", "CNTPOFF"];
+
+const LEGEND: [&str; 3] = [
+    "A column is a moment; they are evenly spaced, not to scale. Timers that are never on, up or written are left out.",
+    "virtual and TVAL are CNTVCT and CNTV_TVAL as a guest reads them at EL1: ? is unknown, - is not to be read.",
+    "High and filled: the line is up. Diamond or new offset: a write moved a deadline. Dashed: the count alone turned a line.",
+];
+
+/// A moment with the lines before it.
+pub(super) type Step<'a> = (&'a Moment, &'a Lines);
+
+/// The picture of those moments: the bytes of an SVG file.
+pub fn picture(moments: &[Moment]) -> String {
+    let last = moments.iter().filter_map(|moment| moment.records).last();
+    let records = last.map(|(_, last)| last).unwrap_or_default();
+    let title = match records {
+        0 => "The lines over a journal without a record".to_string(),
+        1 => "The lines over a journal of 1 record".to_string(),
+        many => format!("The lines over a journal of {many} records"),
+    };
+    let mut sheet = Sheet::of(moments);
+    sheet.words("title", &title);
+    sheet.y += ROW / 2;
+    for band in bands(moments, sheet.columns_in_a_band()) {
+        sheet.band(&band);
+    }
+    for line in LEGEND {
+        sheet.words("plain", line);
+    }
+    let size = (WIDTH, sheet.y + MARGIN / 2);
+    sheet.svg.file(size, &title, &about(moments))
+}
+
+/// What the picture shows, in words.
+fn about(moments: &[Moment]) -> String {
+    let turns = with_lines_before(moments).filter(|(moment, before)| moment.seen.lines != **before);
+    let told = turns.map(|(moment, before)| {
+        let turned = turned(before, &moment.seen.lines);
+        format!("at count {} {turned}", number(moment.count))
+    });
+    match told.collect::<Vec<_>>().as_slice() {
+        [] => "No line turns.".to_string(),
+        told => format!("Lines turn {}.", told.join("; ")),
+    }
+}
+
+/// Bands of so many columns. Where the count goes back a new one begins.
+fn bands(moments: &[Moment], columns: usize) -> Vec<Vec<Step<'_>>> {
+    let mut bands: Vec<Vec<Step>> = Vec::new();
+    for step in with_lines_before(moments) {
+        match bands.last_mut() {
+            Some(band) if band.len() < columns && !step.0.goes_back => band.push(step),
+            _ => bands.push(vec![step]),
+        }
+    }
+    bands
+}
+
+/// What is drawn so far, down to `y`, and what the bands have in common.
+struct Sheet {
+    svg: Svg,
+    y: usize,
+    column: usize,
+    tracks: Vec<Track>,
+    offsets: Vec<&'static str>,
+}
+
+impl Sheet {
+    fn of(moments: &[Moment]) -> Sheet {
+        let timers = drawn(moments).into_iter();
+        let tracks: Vec<Track> = timers.map(|timer| Track::of(timer, moments)).collect();
+        let is_moved = |offset: &&str| moments.iter().any(|m| !moved_of(m, offset).is_empty());
+        Sheet {
+            svg: Svg::default(),
+            y: MARGIN,
+            column: column_width(moments),
+            tracks,
+            offsets: OFFSETS.into_iter().filter(is_moved).collect(),
+        }
+    }
+
+    fn columns_in_a_band(&self) -> usize {
+        ((WIDTH - MARGIN - LEFT) / self.column).max(1)
+    }
+
+    /// Where the column of that index has its middle.
+    fn x(&self, index: usize) -> usize {
+        LEFT + index * self.column + self.column / 2
+    }
+
+    fn words(&mut self, class: &str, words: &str) {
+        self.y += ROW;
+        self.svg.words(class, MARGIN, self.y - ROW / 4, words);
+    }
+
+    fn band(&mut self, band: &[Step]) {
+        if band.iter().any(|(moment, _)| moment.goes_back) {
+            self.words("plain", "The count goes back:");
+        }
+        self.row("records", "record", band, |moment| match moment.records {
+            None if moment.cause == Cause::Start => "start".to_string(),
+            _ => records(moment),
+        });
+        self.row("count", "count", band, |moment| number(moment.count));
+        self.row("virtual", "value", band, virtual_count);
+        self.row("TVAL", "value", band, tval);
+        for offset in self.offsets.clone() {
+            self.row(offset, "note", band, |moment| {
+                moved_of(moment, offset).join(" ")
+            });
+        }
+        self.y += ROW / 3;
+        self.columns(band);
+        let places: Vec<usize> = (0..band.len()).map(|index| self.x(index)).collect();
+        let right = LEFT + band.len() * self.column;
+        for track in &self.tracks {
+            self.svg
+                .words("name", MARGIN, track.middle(self.y), track.name());
+            track.draw(&mut self.svg, self.y, (LEFT, right), &places, band);
+            self.y += track.height();
+        }
+        self.y += ROW;
+    }
+
+    fn row(&mut self, name: &str, class: &str, band: &[Step], words: impl Fn(&Moment) -> String) {
+        self.words("name", name);
+        for (index, (moment, _)) in band.iter().enumerate() {
+            let (x, y) = (self.x(index), self.y - ROW / 4);
+            self.svg.words(class, x, y, &words(moment));
+        }
+    }
+
+    fn columns(&mut self, band: &[Step]) {
+        let tracks: usize = self.tracks.iter().map(Track::height).sum();
+        for (index, (moment, _)) in band.iter().enumerate() {
+            let class = match moment.cause {
+                Cause::Count => "turn",
+                _ => "moment",
+            };
+            let x = self.x(index);
+            self.svg.stroke(class, (x, self.y), (x, self.y + tracks));
+        }
+    }
+}
+
+/// Wide enough for the widest words of any moment, by the widest of the usual fonts.
+fn column_width(moments: &[Moment]) -> usize {
+    let values = moments.iter().flat_map(|moment| {
+        let [count, seen, left] = [number(moment.count), virtual_count(moment), tval(moment)];
+        [records(moment), count, seen, left]
+    });
+    let notes = moments
+        .iter()
+        .flat_map(|moment| moment.moved.iter().map(left));
+    let longest = |words: &mut dyn Iterator<Item = String>| words.map(|words| words.len()).max();
+    let values = longest(&mut { values }).unwrap_or_default() * 15 / 2;
+    let notes = longest(&mut { notes }).unwrap_or_default() * 7;
+    (values.max(notes) + BETWEEN).max(NARROWEST)
+}
