@@ -12,37 +12,41 @@ struct Asked<'a> {
     state: &'a str,
     journal: &'a str,
     svg: Option<&'a str>,
-    probe: &'a [&'a str],
+    probe: Probe<'a>,
 }
 
 impl<'a> Asked<'a> {
     fn by(options: &'a [&'a str]) -> Result<Asked<'a>, Failure> {
-        let (state, journal, svg, probe) = match options {
-            [state, journal, "--", probe @ ..] => (state, journal, None, probe),
-            [state, journal, "--svg", svg, "--", probe @ ..] => (state, journal, Some(*svg), probe),
+        let (files, svg, program, arguments) = match options {
+            [state, journal, "--", program, arguments @ ..] => {
+                ([state, journal], None, program, arguments)
+            }
+            [state, journal, "--svg", svg, "--", program, arguments @ ..] => {
+                ([state, journal], Some(*svg), program, arguments)
+            }
             other => {
                 let message = format!("cannot make sense of `timeline {}`", other.join(" "));
                 return Err(Failure::Usage(message));
             }
         };
+        let [state, journal] = files;
         Ok(Asked {
             state,
             journal,
             svg,
-            probe,
+            probe: Probe { program, arguments },
         })
     }
 }
 
 pub(crate) fn timeline(options: &[&str]) -> Result<Vec<u8>, Failure> {
-    let asked = Asked::by(options)?;
+    let mut asked = Asked::by(options)?;
     let state = State::of_bytes(&read(asked.state)?).map_err(unshowable)?;
     let journal = journal(asked.journal)?;
-    let no_probe = || Failure::Usage("the command that runs probe is missing".to_string());
-    let mut probe = Probe::by(asked.probe).ok_or_else(no_probe)?;
-    let moments = moments(&mut probe, &state, &journal).map_err(failure)?;
+    let moments = moments(&mut asked.probe, &state, &journal).map_err(failure)?;
     if let Some(file) = asked.svg {
-        fs::write(file, picture(&moments)).map_err(|error| failure(format!("{file}: {error}")))?;
+        let written = fs::write(file, picture(&moments));
+        written.map_err(|error| failure(format!("{file}: {error}")))?;
     }
     Ok(table(&moments).into_bytes())
 }

@@ -231,6 +231,7 @@ fn help_has_each_command_and_the_exit_statuses_and_fits_a_terminal() {
         "scribe pack [FILE]",
         "scribe pack-state [FILE]",
         "scribe end STATE JOURNAL WRITTEN",
+        "scribe timeline STATE JOURNAL [--svg FILE] -- PROBE",
         "scribe kind [FILE]",
         "exit: 0 done, 1 ",
     ] {

@@ -49,3 +49,47 @@ impl Column {
         }
     }
 }
+
+#[cfg(test)]
+mod tests {
+    use super::*;
+    use crate::timeline::samples::{start, turn, write};
+
+    #[test]
+    fn a_line_turns_from_side_to_side() {
+        let column = Column::of(1, "CNTV");
+        let down = start(1);
+        let up = turn(&down, 2, &[1]);
+        let drawn = |now: &Moment, before: &Moment| column.turning(now, &before.seen.lines);
+        assert_eq!(drawn(&down, &down), "|   ");
+        assert_eq!(drawn(&up, &down), "'--.");
+        assert_eq!(drawn(&up, &up), "   |");
+        assert_eq!(drawn(&down, &up), ".--'");
+        assert_eq!(column.standing(&up), "   |");
+        assert_eq!(Column::of(0, "P").turning(&up, &down.seen.lines), "|  ");
+    }
+
+    #[test]
+    fn a_moved_deadline_is_marked_on_the_line_that_it_is_of() {
+        let column = Column::of(1, "CNTV");
+        let down = start(1);
+        let mut state = down.seen.state;
+        state.timers[1].cval = 5;
+        let moved = write(&down, 1, 0, state);
+        let mut raised = moved.clone();
+        raised.seen.lines = turn(&down, 1, &[1]).seen.lines;
+        let drawn = |now: &Moment, before: &Moment| column.turning(now, &before.seen.lines);
+        assert_eq!(drawn(&moved, &down), "*   ");
+        assert_eq!(drawn(&raised, &down), "'--*");
+        assert_eq!(drawn(&raised, &raised), "   *");
+        assert_eq!(drawn(&moved, &raised), "*--'");
+        assert_eq!(Column::of(0, "CNTP").turning(&moved, &None), "|   ");
+    }
+
+    #[test]
+    fn of_a_state_that_cannot_be_no_line_is_known() {
+        let mut unknown = start(1);
+        unknown.seen.lines = None;
+        assert_eq!(Column::of(1, "CNTV").turning(&unknown, &None), "?   ");
+    }
+}

@@ -135,3 +135,58 @@ fn signed(value: u64) -> String {
         _ => number(value),
     }
 }
+
+#[cfg(test)]
+mod tests {
+    use super::*;
+    use crate::state::State;
+    use crate::timeline::samples::{start, turn, write};
+
+    #[test]
+    fn a_tval_has_its_sign_while_it_is_short() {
+        for (value, told) in [
+            (500, "500"),
+            (u64::MAX - 99, "-100"),
+            (u64::MAX - 999_998, "-999999"),
+            (u64::MAX - 999_999, "0xFFFFFFFFFFF0BDC0"),
+            (1 << 63, "0x8000000000000000"),
+        ] {
+            let mut moment = start(0);
+            moment.seen.tval = Reading::Value(value);
+            assert_eq!(tval(&moment), told);
+        }
+        let mut moment = start(0);
+        assert_eq!(tval(&moment), "?");
+        moment.seen.virtual_count = Reading::Refused;
+        assert_eq!(virtual_count(&moment), "-");
+    }
+
+    #[test]
+    fn timers_that_do_nothing_are_not_drawn() {
+        let first = start(5);
+        assert_eq!(drawn(std::slice::from_ref(&first)), [CNTV]);
+        let up = turn(&first, 6, &[0]);
+        let mut on = State::bench();
+        on.timers[3].enable = true;
+        let on = write(&up, 1, 0, on);
+        let mut written = on.seen.state;
+        written.timers[5].cval = 7;
+        let written = write(&on, 2, 0, written);
+        assert_eq!(drawn(&[first, up, on, written]), [0, CNTV, 3, 5]);
+    }
+
+    #[test]
+    fn a_moment_says_what_brought_it() {
+        let first = start(5);
+        let up = turn(&first, 6, &[1, 4]);
+        let both = turn(&up, 7, &[0, 1]);
+        let told = |moment: &Moment, before: &Moment| cause(moment, &before.seen.lines);
+        assert_eq!(told(&first, &first), "start");
+        assert_eq!(told(&up, &first), "up: CNTV, CNTHPS");
+        assert_eq!(told(&both, &up), "up: CNTP, down: CNTHPS");
+        let read = write(&up, 1, 0xD53B_E040, up.seen.state);
+        assert_eq!(told(&read, &up), "MRS CNTVCT_EL0");
+        let other = write(&up, 1, 0xD53B_E000, up.seen.state);
+        assert_eq!(told(&other, &up), "WORD 0xD53BE000");
+    }
+}

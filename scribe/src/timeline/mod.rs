@@ -8,9 +8,13 @@ mod labels;
 mod moments;
 mod picture;
 mod probe;
+#[cfg(test)]
+mod samples;
 mod svg;
 mod table;
 mod track;
+#[cfg(test)]
+mod well_formed;
 
 pub use desk::{Desk, Reading, Seen};
 pub use moments::{moments, Cause, Moment};

@@ -36,7 +36,10 @@ pub(super) type Step<'a> = (&'a Moment, &'a Lines);
 
 /// The picture of those moments: the bytes of an SVG file.
 pub fn picture(moments: &[Moment]) -> String {
-    let last = moments.iter().filter_map(|moment| moment.records).last();
+    let last = moments
+        .iter()
+        .filter_map(|moment| moment.records)
+        .next_back();
     let records = last.map(|(_, last)| last).unwrap_or_default();
     let title = match records {
         0 => "The lines over a journal without a record".to_string(),
@@ -181,4 +184,96 @@ fn column_width(moments: &[Moment]) -> usize {
     let values = longest(&mut { values }).unwrap_or_default() * 15 / 2;
     let notes = longest(&mut { notes }).unwrap_or_default() * 7;
     (values.max(notes) + BETWEEN).max(NARROWEST)
+}
+
+#[cfg(test)]
+mod tests {
+    use super::*;
+    use crate::timeline::samples::{start, turn, widest, write};
+    use crate::timeline::well_formed::fault_in;
+
+    fn well_formed(moments: &[Moment]) -> String {
+        let file = picture(moments);
+        assert_eq!(fault_in(&file), None, "{file}");
+        file
+    }
+
+    /// Where each word that is centred begins and ends, with its height, by the widest font.
+    fn centred(file: &str) -> Vec<(usize, usize, usize)> {
+        let attribute = |line: &str, name: &str| {
+            let value = line.split_once(&format!(" {name}=\""))?.1;
+            value.split_once('"')?.0.parse().ok()
+        };
+        let class = |line: &str| {
+            ["value", "count", "record", "note"]
+                .iter()
+                .any(|class| line.starts_with(&format!("<text class=\"{class}\"")))
+        };
+        let place = |line: &str| {
+            let words = line.split_once('>')?.1.strip_suffix("</text>")?;
+            let letter = if line.contains("\"note\"") { 14 } else { 15 };
+            let half = words.len() * letter / 4;
+            let x: usize = attribute(line, "x")?;
+            Some((attribute(line, "y")?, x - half, x + half))
+        };
+        file.lines()
+            .filter(|line| class(line))
+            .filter_map(place)
+            .collect()
+    }
+
+    #[test]
+    fn no_word_is_cut_off_or_runs_into_another() {
+        for moments in [widest(), vec![start(1)]] {
+            let mut places = centred(&well_formed(&moments));
+            places.sort_unstable();
+            assert!(places.len() >= 3);
+            for pair in places.windows(2) {
+                let ((y, _, end), (below, next, _)) = (pair[0], pair[1]);
+                assert!(y < below || end < next, "{pair:?}");
+            }
+            assert!(places
+                .iter()
+                .all(|&(_, from, to)| LEFT <= from && to <= WIDTH));
+        }
+    }
+
+    #[test]
+    fn a_band_ends_where_it_is_full_and_where_the_count_goes_back() {
+        let mut moments = vec![start(9)];
+        for count in [10, 11, 12, 5, 6] {
+            let before = moments.last().expect("one before");
+            moments.push(turn(before, count, &[]));
+        }
+        let lengths = |columns| {
+            bands(&moments, columns)
+                .iter()
+                .map(Vec::len)
+                .collect::<Vec<_>>()
+        };
+        assert_eq!(lengths(10), [4, 2]);
+        assert_eq!(lengths(3), [3, 1, 2]);
+        assert!(well_formed(&moments).contains("The count goes back:"));
+    }
+
+    #[test]
+    fn the_picture_says_in_words_what_turns() {
+        let first = start(5);
+        let over = turn(&first, 15, &[1]);
+        let mut state = over.seen.state;
+        state.timers[1].enable = true;
+        let told = well_formed(&[first.clone(), over.clone(), write(&over, 1, 0, state)]);
+        assert!(told.contains("<desc id=\"about\">Lines turn at count 15 up: CNTV.</desc>"));
+        assert!(told.contains(">The lines over a journal of 1 record</title>"));
+        assert!(well_formed(&[first]).contains("No line turns."));
+        assert!(well_formed(&[]).contains("a journal without a record"));
+    }
+
+    #[test]
+    fn of_a_state_that_cannot_be_there_is_no_wave() {
+        let mut unknown = start(1);
+        unknown.seen.lines = None;
+        let file = well_formed(&[unknown]);
+        assert!(file.contains("the state is impossible (5)") && !file.contains("<polyline"));
+    }
 }

@@ -14,17 +14,11 @@ use super::desk::{Desk, Reading, Seen};
 
 /// The command line that runs `probe`.
 pub struct Probe<'a> {
-    program: &'a str,
-    arguments: &'a [&'a str],
+    pub program: &'a str,
+    pub arguments: &'a [&'a str],
 }
 
-impl<'a> Probe<'a> {
-    /// None without a program.
-    pub fn by(command: &'a [&'a str]) -> Option<Probe<'a>> {
-        let (program, arguments) = command.split_first()?;
-        Some(Probe { program, arguments })
-    }
-
+impl Probe<'_> {
     fn run(&self, input: &[u8]) -> Result<Vec<u8>, String> {
         let told = |error| format!("{}: {error}", self.program);
         let mut child = Command::new(self.program)

@@ -94,3 +94,21 @@ fn escaped(words: &str) -> String {
     let words = words.replace('&', "&amp;").replace('<', "&lt;");
     words.replace('>', "&gt;").replace('"', "&quot;")
 }
+
+#[cfg(test)]
+mod tests {
+    use super::*;
+    use crate::timeline::well_formed::fault_in;
+
+    #[test]
+    fn words_are_escaped_and_nothing_is_no_element() {
+        let mut svg = Svg::default();
+        svg.words("plain", 1, 2, "a < b & \"c\" > d");
+        svg.words("plain", 1, 2, "");
+        let file = svg.file((5, 6), "t<", "d&");
+        assert_eq!(fault_in(&file), None, "{file}");
+        assert!(file.contains(
+            "<text class=\"plain\" x=\"1\" y=\"2\">a &lt; b &amp; &quot;c&quot; &gt; d</text>\n</svg>"
+        ));
+    }
+}

@@ -1,5 +1,7 @@
 //! The timeline as a text: a row for each moment, time going down, and a column for each line.
 
+use std::slice::from_ref;
+
 use crate::state::TIMERS;
 use crate::words::{number, COLUMNS};
 
@@ -114,7 +116,7 @@ impl Table {
         let width = self.numbers_width().max(self.longest_told());
         let row = |row: &Row| {
             let numbers = [format!("{:>width$} {}", self.numbers(row), row.lines)];
-            let told = [&[row.records.clone()], row.told.as_slice()].concat();
+            let told = [from_ref(&row.records), &row.told].concat();
             let told = filled(&told, width).into_iter();
             let told = told.map(|told| format!("{told:width$} {}", row.standing));
             numbers.into_iter().chain(told).collect()
@@ -164,4 +166,95 @@ fn filled(parts: &[String], room: usize) -> Vec<String> {
         }
     }
     lines
+}
+
+#[cfg(test)]
+mod tests {
+    use super::*;
+    use crate::timeline::desk::Reading;
+    use crate::timeline::samples::{start, turn, widest, write};
+
+    const MSR_CNTV_CVAL: u32 = 0xD51B_E341;
+
+    fn drawn(moments: &[Moment]) -> String {
+        let text = table(moments);
+        assert!(text.ends_with(LEGEND));
+        assert!(text.lines().all(|line| line.len() <= COLUMNS), "{text}");
+        text.trim_end_matches(LEGEND).to_string()
+    }
+
+    /// A write that moves CNTV's deadline, and the count that raises its line.
+    fn lease(count: u64, cval: u64) -> Vec<Moment> {
+        let first = start(count);
+        let mut state = first.seen.state;
+        state.timers[1].cval = cval;
+        let mut taken = write(&first, 1, MSR_CNTV_CVAL, state);
+        taken.records = Some((1, 3));
+        let over = turn(&taken, count + 10, &[1]);
+        vec![first, taken, over]
+    }
+
+    #[test]
+    fn what_is_told_stands_beside_the_lines() {
+        assert_eq!(
+            drawn(&lease(5, 15)),
+            "count virtual TVAL CNTV  records\n    \
+                 5       5    ? |              start\n    \
+                 5       5    ? *     1-3      MSR CNTV_CVAL_EL0 * CNTV CVAL 15\n   \
+                15      15    ? '--.           up: CNTV\n"
+        );
+    }
+
+    #[test]
+    fn what_does_not_fit_beside_them_goes_on_below() {
+        assert_eq!(
+            drawn(&lease(5, 1 << 63)),
+            "count virtual TVAL CNTV  records\n    \
+                 5       5    ? |              start\n    \
+                 5       5    ? *     1-3      MSR CNTV_CVAL_EL0\n                   \
+                                |              * CNTV CVAL 0x8000000000000000\n   \
+                15      15    ? '--.           up: CNTV\n"
+        );
+    }
+
+    #[test]
+    fn what_has_no_room_beside_them_stands_under_the_numbers() {
+        let mut moments = lease(1 << 63, 15);
+        moments[2].seen.tval = Reading::Value(1 << 62);
+        assert_eq!(
+            drawn(&moments),
+            "             count            virtual               TVAL CNTV\n\
+             records\n\
+             0x8000000000000000 0x8000000000000000                  ? |\n\
+             start                                                    |\n\
+             0x8000000000000000 0x8000000000000000                  ? *\n\
+             1-3 MSR CNTV_CVAL_EL0 * CNTV CVAL 15                     |\n\
+             0x800000000000000A 0x800000000000000A 0x4000000000000000 '--.\n\
+             up: CNTV                                                    |\n"
+        );
+    }
+
+    #[test]
+    fn the_widest_there_is_fits_with_short_names() {
+        let text = drawn(&widest());
+        let heading = text.lines().next().expect("a heading");
+        assert!(heading.ends_with("TVAL P   V   HP  HV  HPS HVS"), "{text}");
+        assert_eq!(heading.len(), COLUMNS);
+    }
+
+    #[test]
+    fn a_count_that_goes_back_is_told_in_words() {
+        let first = start(9);
+        let back = turn(&first, 5, &[]);
+        let text = drawn(&[first, back]);
+        assert!(
+            text.contains("start\n-- the count goes back --\n    5 "),
+            "{text}"
+        );
+    }
+
+    #[test]
+    fn without_a_moment_there_is_no_table() {
+        assert_eq!(table(&[]), "no record, so no timeline\n");
+    }
 }
