@@ -3,7 +3,6 @@
 use std::fmt;
 
 use crate::bits::{Packer, Unpacker};
-use crate::show::Unshowable;
 use crate::state::State;
 
 pub const IMAGE_BYTES: usize = 128;
@@ -40,13 +39,6 @@ impl State {
             packer.put(field.bits(), field.value());
         }
         bytes
-    }
-
-    /// The state of an image, whatever its length is.
-    pub fn of_bytes(bytes: &[u8]) -> Result<State, Unshowable> {
-        let length = Unshowable::ImageLength(bytes.len());
-        let image = bytes.try_into().map_err(|_| length)?;
-        State::from_image(image).map_err(Unshowable::Image)
     }
 
     /// The state of an image. Only the one image of a state is taken, so that nothing that stands

@@ -95,17 +95,24 @@ pub fn side_by_side(journal: &[u8], answers: &[u8]) -> Result<String, Unshowable
 
 /// A state image as the text that packs to it.
 pub fn state(image: &[u8]) -> Result<String, Unshowable> {
-    Ok(words::state_text(&State::of_bytes(image)?))
+    Ok(words::state_text(&state_in(image)?))
 }
 
 /// How a run ends: what `probe` wrote on a state and a journal, but for the answers.
 pub fn end(image: &[u8], journal: &[u8], written: &[u8]) -> Result<String, Unshowable> {
-    let first = State::of_bytes(image)?;
+    let first = state_in(image)?;
     let records = records(journal)?;
     let last = Written::of(written, records.len())?;
     let count = records.last().map(|record| record.count);
     let differs = words::changes(&changes(&first, &last.state));
     Ok(differs + &words::lines(&last.lines, count.unwrap_or_default()))
+}
+
+/// The state of an image.
+pub fn state_in(image: &[u8]) -> Result<State, Unshowable> {
+    let length = Unshowable::ImageLength(image.len());
+    let image = image.try_into().map_err(|_| length)?;
+    State::from_image(image).map_err(Unshowable::Image)
 }
 
 /// The records of a journal.

@@ -4,7 +4,7 @@ use std::fs;
 
 use scribe::show::{self, Unshowable};
 use scribe::timeline::{moments, picture, table, Probe};
-use scribe::{Record, State, RECORD_LIMIT};
+use scribe::{Record, RECORD_LIMIT};
 
 use crate::files::{read, Failure};
 
@@ -41,7 +41,7 @@ impl<'a> Asked<'a> {
 
 pub(crate) fn timeline(options: &[&str]) -> Result<Vec<u8>, Failure> {
     let mut asked = Asked::by(options)?;
-    let state = State::of_bytes(&read(asked.state)?).map_err(unshowable)?;
+    let state = show::state_in(&read(asked.state)?).map_err(unshowable)?;
     let journal = journal(asked.journal)?;
     let moments = moments(&mut asked.probe, &state, &journal).map_err(failure)?;
     if let Some(file) = asked.svg {

@@ -3,7 +3,7 @@
 use crate::answer::Answer;
 use crate::image::IMAGE_BYTES;
 use crate::record::RECORD_BYTES;
-use crate::show::Unshowable;
+use crate::show::{state_in, Unshowable};
 use crate::state::{State, TIMERS};
 
 /// Whether each timer's line is up; of a state that cannot be, nothing is said.
@@ -31,7 +31,7 @@ impl Written {
         let (image, lines) = rest.split_at(IMAGE_BYTES);
         Ok(Written {
             answers: answers.as_chunks().0.iter().map(Answer::unpack).collect(),
-            state: State::of_bytes(image)?,
+            state: state_in(image)?,
             lines: lines_of(lines),
         })
     }
@@ -65,10 +65,10 @@ mod tests {
         bytes[RECORD_BYTES + IMAGE_BYTES] = 5;
         let of_impossible = Written::of(&bytes, 1).expect("a state that cannot be");
         assert_eq!(of_impossible.lines, None);
-        let (found, due) = (154, 178);
-        assert_eq!(
-            Written::of(&bytes, 2),
-            Err(Unshowable::Written { found, due })
-        );
+        for (records, due) in [(2, 178), (0, 130)] {
+            let found = bytes.len();
+            let another_length = Err(Unshowable::Written { found, due });
+            assert_eq!(Written::of(&bytes, records), another_length);
+        }
     }
 }

@@ -12,12 +12,10 @@ pub fn number_of(text: &str) -> Option<u64> {
 
 /// A number of 64 bits that may be meant as negative: `-5` stands for the bits of 2^64 - 5.
 pub fn signed_number_of(text: &str) -> Option<u64> {
-    match text.strip_prefix('-') {
-        Some(digits) if digits.starts_with(|digit: char| digit.is_ascii_digit()) => {
-            text.parse::<i64>().ok().map(|number| number as u64)
-        }
-        Some(_) => None,
-        None => number_of(text),
+    if text.starts_with('-') {
+        text.parse().ok().map(|number: i64| number as u64)
+    } else {
+        number_of(text)
     }
 }
 

@@ -16,7 +16,7 @@ use crate::control::{bits_of, Bit};
 use crate::fields::{arm_name, registers, Field};
 use crate::state::State;
 
-use super::fault::{Fault, Parsed};
+use super::fault::{Fault, FaultInLine, Parsed};
 use super::line::Line;
 use super::nearest::nearest;
 
@@ -36,7 +36,7 @@ pub fn state_of(text: &str) -> Result<State, Fault> {
         if line.is_over() {
             continue;
         }
-        let told = |fault: super::fault::FaultInLine| fault.at(index);
+        let told = |fault: FaultInLine| fault.at(index);
         if rows.is_empty() && line.next_is("ALL") {
             all_zero(line).map_err(told)?;
             start = State::default();

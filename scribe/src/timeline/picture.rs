@@ -34,6 +34,13 @@ const LEGEND: [&str; 3] = [
 /// A moment with the lines before it.
 pub(super) type Step<'a> = (&'a Moment, &'a Lines);
 
+/// Moments that stand side by side, each at its place, between the ends of the tracks.
+pub(super) struct Band<'a> {
+    pub(super) steps: &'a [Step<'a>],
+    pub(super) places: Vec<usize>,
+    pub(super) ends: (usize, usize),
+}
+
 /// The picture of those moments: the bytes of an SVG file.
 pub fn picture(moments: &[Moment]) -> String {
     let last = moments
@@ -49,8 +56,9 @@ pub fn picture(moments: &[Moment]) -> String {
     let mut sheet = Sheet::of(moments);
     sheet.words("title", &title);
     sheet.y += ROW / 2;
-    for band in bands(moments, sheet.columns_in_a_band()) {
-        sheet.band(&band);
+    for steps in bands(moments, sheet.columns_in_a_band()) {
+        let band = sheet.laid_out(&steps);
+        sheet.draw(&band);
     }
     for line in LEGEND {
         sheet.words("plain", line);
@@ -111,9 +119,13 @@ impl Sheet {
         ((WIDTH - MARGIN - LEFT) / self.column).max(1)
     }
 
-    /// Where the column of that index has its middle.
-    fn x(&self, index: usize) -> usize {
-        LEFT + index * self.column + self.column / 2
+    fn laid_out<'a>(&self, steps: &'a [Step<'a>]) -> Band<'a> {
+        let middle = |index| LEFT + index * self.column + self.column / 2;
+        Band {
+            steps,
+            places: (0..steps.len()).map(middle).collect(),
+            ends: (LEFT, LEFT + steps.len() * self.column),
+        }
     }
 
     fn words(&mut self, class: &str, words: &str) {
@@ -121,8 +133,8 @@ impl Sheet {
         self.svg.words(class, MARGIN, self.y - ROW / 4, words);
     }
 
-    fn band(&mut self, band: &[Step]) {
-        if band.iter().any(|(moment, _)| moment.goes_back) {
+    fn draw(&mut self, band: &Band) {
+        if band.steps.iter().any(|(moment, _)| moment.goes_back) {
             self.words("plain", "The count goes back:");
         }
         self.row("records", "record", band, |moment| match moment.records {
@@ -133,39 +145,34 @@ impl Sheet {
         self.row("virtual", "value", band, virtual_count);
         self.row("TVAL", "value", band, tval);
         for offset in self.offsets.clone() {
-            self.row(offset, "note", band, |moment| {
-                moved_of(moment, offset).join(" ")
-            });
+            let moved = |moment: &Moment| moved_of(moment, offset).join(" ");
+            self.row(offset, "note", band, moved);
         }
         self.y += ROW / 3;
         self.columns(band);
-        let places: Vec<usize> = (0..band.len()).map(|index| self.x(index)).collect();
-        let right = LEFT + band.len() * self.column;
         for track in &self.tracks {
-            self.svg
-                .words("name", MARGIN, track.middle(self.y), track.name());
-            track.draw(&mut self.svg, self.y, (LEFT, right), &places, band);
+            let name = track.middle(self.y);
+            self.svg.words("name", MARGIN, name, track.name());
+            track.draw(&mut self.svg, self.y, band);
             self.y += track.height();
         }
         self.y += ROW;
     }
 
-    fn row(&mut self, name: &str, class: &str, band: &[Step], words: impl Fn(&Moment) -> String) {
+    fn row(&mut self, name: &str, class: &str, band: &Band, words: impl Fn(&Moment) -> String) {
         self.words("name", name);
-        for (index, (moment, _)) in band.iter().enumerate() {
-            let (x, y) = (self.x(index), self.y - ROW / 4);
-            self.svg.words(class, x, y, &words(moment));
+        for (x, (moment, _)) in band.places.iter().zip(band.steps) {
+            self.svg.words(class, *x, self.y - ROW / 4, &words(moment));
         }
     }
 
-    fn columns(&mut self, band: &[Step]) {
+    fn columns(&mut self, band: &Band) {
         let tracks: usize = self.tracks.iter().map(Track::height).sum();
-        for (index, (moment, _)) in band.iter().enumerate() {
+        for (&x, (moment, _)) in band.places.iter().zip(band.steps) {
             let class = match moment.cause {
                 Cause::Count => "turn",
                 _ => "moment",
             };
-            let x = self.x(index);
             self.svg.stroke(class, (x, self.y), (x, self.y + tracks));
         }
     }

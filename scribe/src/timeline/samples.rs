@@ -63,9 +63,9 @@ pub(super) fn widest() -> Vec<Moment> {
     state.timers[4].enable = false;
     state.timers[4].imask = true;
     let third = write(&second, 1024, MSR_CNTHVS_TVAL, state);
-    let mut fourth = turn(&third, u64::MAX - 1, &[0, 1, 2, 3, 4, 5]);
+    let mut fourth = turn(&third, u64::MAX - 1, &[0, 1, 2]);
     fourth.seen.tval = Reading::Value(u64::MAX - 999_999);
-    let fifth = turn(&fourth, u64::MAX, &[0, 2, 4]);
+    let fifth = turn(&fourth, u64::MAX, &[3, 4, 5]);
     state.cntvoff = u64::MAX;
     let sixth = write(&fifth, 1024, MSR_CNTHVS_TVAL, state);
     vec![first, second, third, fourth, fifth, sixth]

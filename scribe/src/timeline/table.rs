@@ -78,6 +78,8 @@ fn told(moment: &Moment, cause: String) -> Vec<String> {
 struct Table {
     heading: Row,
     rows: Vec<Row>,
+    /// Of the numbers.
+    widths: [usize; 3],
 }
 
 impl Table {
@@ -86,10 +88,13 @@ impl Table {
             .into_iter()
             .map(|timer| Column::of(timer, name(TIMERS[timer])))
             .collect();
-        Table {
+        let mut table = Table {
             heading: Row::heading(&columns),
             rows: Row::all_of(moments, &columns),
-        }
+            widths: [0; 3],
+        };
+        table.widths = [0, 1, 2].map(|place| table.widest(|row| row.numbers[place].len()));
+        table
     }
 
     /// What is told of a moment stands at the right of its lines; none if there is no room.
@@ -137,7 +142,7 @@ impl Table {
     }
 
     fn numbers(&self, row: &Row) -> String {
-        let [a, b, c] = [0, 1, 2].map(|place| self.widest(|row| row.numbers[place].len()));
+        let [a, b, c] = self.widths;
         let [count, virtual_count, tval] = &row.numbers;
         format!("{count:>a$} {virtual_count:>b$} {tval:>c$}")
     }

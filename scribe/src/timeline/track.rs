@@ -4,7 +4,7 @@ use crate::state::TIMERS;
 
 use super::labels::{is_up, moved_of};
 use super::moments::Moment;
-use super::picture::Step;
+use super::picture::Band;
 use super::svg::Svg;
 
 /// How far up a line goes.
@@ -51,87 +51,77 @@ impl Track {
         self.low(top) - if up { RISE } else { 0 }
     }
 
-    /// Draws a band of it, between its ends, the moments being at those places.
-    pub(super) fn draw(
-        &self,
-        svg: &mut Svg,
-        top: usize,
-        (left, right): (usize, usize),
-        places: &[usize],
-        band: &[Step],
-    ) {
-        let known: Option<Vec<bool>> = band
-            .iter()
-            .map(|(moment, _)| is_up(&moment.seen.lines, self.timer))
-            .collect();
+    /// Draws a band of it.
+    pub(super) fn draw(&self, svg: &mut Svg, top: usize, band: &Band) {
+        let lines = band.steps.iter().map(|(moment, _)| &moment.seen.lines);
+        let known: Option<Vec<bool>> = lines.map(|lines| is_up(lines, self.timer)).collect();
         let Some(ups) = known else {
-            let why = "not to be asked, since the state is impossible (5)";
-            svg.area("paper", (left, top), (left + why.len() * 7, self.low(top)));
-            return svg.words("plain", left, self.middle(top), why);
+            return self.draw_nothing(svg, top, band);
         };
-        let before = is_up(band[0].1, self.timer).unwrap_or(ups[0]);
-        let steps = self.steps((left, right), places, before, &ups);
-        self.draw_wave(svg, top, (left, right), &steps);
-        for ((moment, _), (x, up)) in band.iter().zip(places.iter().zip(&ups)) {
-            self.draw_mark(svg, top, (*x, self.level(top, *up)), moment);
+        let before = is_up(band.steps[0].1, self.timer).unwrap_or(ups[0]);
+        self.draw_wave(svg, top, band.ends, &strokes(band, before, &ups));
+        for ((moment, _), (x, up)) in band.steps.iter().zip(band.places.iter().zip(ups)) {
+            self.draw_mark(svg, top, (*x, self.level(top, up)), moment);
         }
     }
 
-    /// From where to where the line stands, and whether it is up there.
-    fn steps(
-        &self,
-        (left, right): (usize, usize),
-        places: &[usize],
-        before: bool,
-        ups: &[bool],
-    ) -> Vec<(usize, usize, bool)> {
-        let from = [left].into_iter().chain(places.iter().copied());
-        let to = places.iter().copied().chain([right]);
-        let up = [before].into_iter().chain(ups.iter().copied());
-        from.zip(to)
-            .zip(up)
-            .map(|((from, to), up)| (from, to, up))
-            .collect()
+    fn draw_nothing(&self, svg: &mut Svg, top: usize, band: &Band) {
+        let why = "not to be asked, since the state is impossible (5)";
+        let (left, right) = band.ends;
+        let end = right.max(left + words_width(why));
+        svg.area("paper", (left, top), (end, self.low(top)));
+        svg.words("plain", left, self.middle(top), why);
     }
 
-    fn draw_wave(
-        &self,
-        svg: &mut Svg,
-        top: usize,
-        (left, right): (usize, usize),
-        steps: &[(usize, usize, bool)],
-    ) {
+    fn draw_wave(&self, svg: &mut Svg, top: usize, ends: (usize, usize), strokes: &[Stroke]) {
         let low = self.low(top);
-        svg.stroke("low", (left, low), (right, low));
-        for &(from, to, up) in steps.iter().filter(|(_, _, up)| *up) {
-            svg.area("up", (from, self.level(top, up)), (to, low));
+        svg.stroke("low", (ends.0, low), (ends.1, low));
+        for stroke in strokes.iter().filter(|stroke| stroke.up) {
+            svg.area("up", (stroke.from, self.level(top, true)), (stroke.to, low));
         }
-        let points: Vec<(usize, usize)> = steps
-            .iter()
-            .flat_map(|&(from, to, up)| [from, to].map(|x| (x, self.level(top, up))))
-            .collect();
-        svg.polyline("wave", &points);
+        let points = strokes.iter().flat_map(|stroke| {
+            let y = self.level(top, stroke.up);
+            [(stroke.from, y), (stroke.to, y)]
+        });
+        svg.polyline("wave", &points.collect::<Vec<_>>());
     }
 
     fn draw_mark(&self, svg: &mut Svg, top: usize, place: (usize, usize), moment: &Moment) {
         let moved = moved_of(moment, TIMERS[self.timer]);
-        if moved.is_empty() {
+        let Some(widest) = moved.iter().map(|note| words_width(note)).max() else {
             return;
-        }
+        };
+        let (x, notes) = (place.0, top + GAP / 2);
+        let (left, right) = (x - widest / 2, x + widest / 2);
         svg.diamond("mark", place);
-        let (x, half) = (
-            place.0,
-            moved.iter().map(String::len).max().unwrap_or_default() * 7 / 2,
-        );
-        let notes = top + GAP / 2;
         // The column that goes down there would run through the words.
-        svg.area(
-            "paper",
-            (x - half, notes),
-            (x + half, notes + NOTE * moved.len()),
-        );
+        svg.area("paper", (left, notes), (right, notes + NOTE * moved.len()));
         for (line, note) in moved.iter().enumerate() {
             svg.words("note", x, notes + NOTE * (line + 1) - 3, note);
         }
     }
+}
+
+/// A piece of a line between two places.
+struct Stroke {
+    from: usize,
+    to: usize,
+    up: bool,
+}
+
+/// The line from end to end of a band, by whether it is up before and from each place on.
+fn strokes(band: &Band, before: bool, ups: &[bool]) -> Vec<Stroke> {
+    let (left, right) = band.ends;
+    let from = [left].into_iter().chain(band.places.iter().copied());
+    let to = band.places.iter().copied().chain([right]);
+    let up = [before].into_iter().chain(ups.iter().copied());
+    from.zip(to)
+        .zip(up)
+        .map(|((from, to), up)| Stroke { from, to, up })
+        .collect()
+}
+
+/// What small words take at most.
+fn words_width(words: &str) -> usize {
+    words.len() * 7
 }
