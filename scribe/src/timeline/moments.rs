@@ -194,7 +194,11 @@ mod tests {
 
     /// The moments in short: count, cause, records, and whether CNTV's line is up.
     fn told(cval: u64, journal: &[Record]) -> Vec<String> {
-        let found = moments(&mut Simple::default(), &start(cval), journal);
+        told_from(&start(cval), journal)
+    }
+
+    fn told_from(start: &State, journal: &[Record]) -> Vec<String> {
+        let found = moments(&mut Simple::default(), start, journal);
         let tell = |moment: &Moment| {
             let cause = match moment.cause {
                 Cause::Start => "start".to_string(),
@@ -237,6 +241,18 @@ mod tests {
                 "650 moves 0 2-2"
             ],
             "where the line falls is proposed by the offset"
+        );
+    }
+
+    #[test]
+    fn what_turns_where_nothing_was_proposed_is_not_drawn_too_late() {
+        let start = State {
+            cntvoff: 0,
+            ..start(500)
+        };
+        assert_eq!(
+            told_from(&start, &[read(550), read(650)]),
+            ["550 start 1-1 up", "649 count", "650 moves 0 2-2"]
         );
     }
 

@@ -205,6 +205,9 @@ mod tests {
         file
     }
 
+    /// What stays free between two words.
+    const LETTER: usize = 8;
+
     /// Where each word that is centred begins and ends, with its height, by the widest font.
     fn centred(file: &str) -> Vec<(usize, usize, usize)> {
         let attribute = |line: &str, name: &str| {
@@ -231,13 +234,15 @@ mod tests {
 
     #[test]
     fn no_word_is_cut_off_or_runs_into_another() {
-        for moments in [widest(), vec![start(1)]] {
+        let first = start(u64::MAX);
+        let second = turn(&first, u64::MAX, &[1]);
+        for moments in [widest(), vec![first, second], vec![start(1)]] {
             let mut places = centred(&well_formed(&moments));
             places.sort_unstable();
             assert!(places.len() >= 3);
             for pair in places.windows(2) {
                 let ((y, _, end), (below, next, _)) = (pair[0], pair[1]);
-                assert!(y < below || end < next, "{pair:?}");
+                assert!(y < below || end + LETTER <= next, "{pair:?}");
             }
             assert!(places
                 .iter()

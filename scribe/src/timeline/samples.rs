@@ -60,6 +60,7 @@ pub(super) fn widest() -> Vec<Moment> {
     state.timers[5].cval = u64::MAX;
     let mut second = write(&first, 1000, MSR_CNTHVS_TVAL, state);
     second.records = Some((1000, 1023));
+    state.timers[5].cval = u64::MAX - 1;
     state.timers[4].enable = false;
     state.timers[4].imask = true;
     let third = write(&second, 1024, MSR_CNTHVS_TVAL, state);

@@ -125,3 +125,20 @@ fn strokes(band: &Band, before: bool, ups: &[bool]) -> Vec<Stroke> {
 fn words_width(words: &str) -> usize {
     words.len() * 7
 }
+
+#[cfg(test)]
+mod tests {
+    use super::*;
+
+    #[test]
+    fn a_line_stands_as_before_up_to_the_first_place() {
+        let band = Band {
+            steps: &[],
+            places: vec![20, 30],
+            ends: (10, 40),
+        };
+        let drawn = strokes(&band, true, &[false, true]);
+        let drawn: Vec<_> = drawn.iter().map(|s| (s.from, s.to, s.up)).collect();
+        assert_eq!(drawn, [(10, 20, true), (20, 30, false), (30, 40, true)]);
+    }
+}
