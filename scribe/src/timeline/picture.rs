@@ -49,9 +49,9 @@ pub fn picture(moments: &[Moment]) -> String {
         .next_back();
     let records = last.map(|(_, last)| last).unwrap_or_default();
     let title = match records {
-        0 => "The lines over a journal without a record".to_string(),
-        1 => "The lines over a journal of 1 record".to_string(),
-        many => format!("The lines over a journal of {many} records"),
+        0 => "Timer lines over a journal without a record".to_string(),
+        1 => "Timer lines over a journal of 1 record".to_string(),
+        many => format!("Timer lines over a journal of {many} records"),
     };
     let mut sheet = Sheet::of(moments);
     sheet.words("title", &title);
@@ -276,7 +276,7 @@ mod tests {
         state.timers[1].enable = true;
         let told = well_formed(&[first.clone(), over.clone(), write(&over, 1, 0, state)]);
         assert!(told.contains("<desc id=\"about\">Lines turn at count 15 up: CNTV.</desc>"));
-        assert!(told.contains(">The lines over a journal of 1 record</title>"));
+        assert!(told.contains(">Timer lines over a journal of 1 record</title>"));
         assert!(well_formed(&[first]).contains("No line turns."));
         assert!(well_formed(&[]).contains("a journal without a record"));
     }
