@@ -21,18 +21,24 @@ can_run() {
     esac
 }
 
-# run_for ARCH FILE [ARGUMENT..]
-run_for() {
+# runner_for ARCH: what a command line that runs a program for it begins with, in the array runner
+runner_for() {
     local kit
     case $(where_and_for "$1") in
-    x86_64/x86_64 | aarch64/aarch64) "${@:2}" ;;
+    x86_64/x86_64 | aarch64/aarch64) runner=() ;;
     aarch64/x86_64)
         kit=$(kit_toolchain)
-        "$kit/bin/qemu-x86_64" "$kit/lib/ld-linux-x86-64.so.2" --library-path "$kit/lib" "${@:2}"
+        runner=("$kit/bin/qemu-x86_64" "$kit/lib/ld-linux-x86-64.so.2" --library-path "$kit/lib")
         ;;
-    x86_64/aarch64) qemu-aarch64 "${@:2}" ;;
-    *) no_way "run $2" ;;
+    x86_64/aarch64) runner=(qemu-aarch64) ;;
+    *) no_way "run a program for $1" ;;
     esac
+}
+
+# run_for ARCH FILE [ARGUMENT..]
+run_for() {
+    local runner
+    runner_for "$1" && "${runner[@]}" "${@:2}"
 }
 
 # run_program FILE [ARGUMENT..]: a program that rt built

@@ -17,7 +17,7 @@ impl<'a> Packer<'a> {
         }
     }
 
-    pub(crate) fn put_bit(&mut self, bit: bool) {
+    fn put_bit(&mut self, bit: bool) {
         let mask = 0x80 >> (self.at % 8);
         let byte = &mut self.bytes[self.at / 8];
         *byte = if bit { *byte | mask } else { *byte & !mask };
@@ -40,7 +40,7 @@ impl<'a> Unpacker<'a> {
         (0..width).fold(0, |value, _| value << 1 | u64::from(self.take_bit()))
     }
 
-    pub(crate) fn take_bit(&mut self) -> bool {
+    fn take_bit(&mut self) -> bool {
         let bit = self.bytes[self.at / 8] << (self.at % 8) & 0x80 != 0;
         self.at += 1;
         bit

@@ -1,9 +1,9 @@
 //! The names of the bits of CNTKCTL_EL1 and CNTHCTL_EL2.
 
 /// A bit's name and its place.
-type Bit = (&'static str, u32);
+pub(crate) type Bit = (&'static str, u32);
 
-pub(crate) const CNTKCTL: &[Bit] = &[
+const CNTKCTL: &[Bit] = &[
     ("EL0PCTEN", 0),
     ("EL0VCTEN", 1),
     ("EL0VTEN", 8),
@@ -30,17 +30,17 @@ const CNTHCTL_E2H_1: &[Bit] = &[
     ("EL1TVCT", 14),
 ];
 
-/// E2H picks one of the two layouts of CNTHCTL.
-pub(crate) fn cnthctl(e2h: bool) -> &'static [Bit] {
-    if e2h {
-        CNTHCTL_E2H_1
-    } else {
-        CNTHCTL_E2H_0
+/// The bits of a control register, of which E2H picks the layout; other registers have none.
+pub(crate) fn bits_of(register: &str, e2h: bool) -> Option<&'static [Bit]> {
+    match (register, e2h) {
+        ("CNTKCTL", _) => Some(CNTKCTL),
+        ("CNTHCTL", false) => Some(CNTHCTL_E2H_0),
+        ("CNTHCTL", true) => Some(CNTHCTL_E2H_1),
+        _ => None,
     }
 }
 
-/// The names of the bits that are set.
-pub(crate) fn set_bits(register: u32, bits: &[Bit]) -> Vec<&'static str> {
-    let set = bits.iter().filter(|(_, place)| register >> place & 1 == 1);
-    set.map(|&(name, _)| name).collect()
+/// Whether a bit of CNTHCTL came with the feature ECV.
+pub(crate) fn is_of_ecv(place: u32) -> bool {
+    place >= 12
 }

@@ -3,7 +3,7 @@
 use std::fs;
 use std::io::{self, Read, Write};
 
-use scribe::Entry;
+use scribe::{Entry, Fault, State};
 
 /// What ends the program without output.
 pub(crate) enum Failure {
@@ -29,7 +29,16 @@ pub(crate) fn read_text(file: &str) -> Result<String, Failure> {
 
 /// The records of a file's text.
 pub(crate) fn entries<'a>(file: &str, text: &'a str) -> Result<Vec<Entry<'a>>, Failure> {
-    scribe::entries(text).map_err(|fault| Failure::Input(format!("{}:{fault}", name_of(file))))
+    scribe::entries(text).map_err(|fault| fault_in(file, &fault))
+}
+
+/// The state of a file's text.
+pub(crate) fn state(file: &str, text: &str) -> Result<State, Failure> {
+    scribe::state_of(text).map_err(|fault| fault_in(file, &fault))
+}
+
+fn fault_in(file: &str, fault: &Fault) -> Failure {
+    Failure::Input(format!("{}:{fault}", name_of(file)))
 }
 
 /// What a fault in the text of a file is told with.

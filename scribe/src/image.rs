@@ -34,18 +34,9 @@ impl State {
     pub fn to_image(&self) -> [u8; IMAGE_BYTES] {
         let mut bytes = [0; IMAGE_BYTES];
         bytes[IMAGE_BYTES - 1] = LAST_BYTE;
-        let mut fields = Packer::new(&mut bytes);
-        for (_, fact) in self.facts() {
-            fields.put_bit(fact);
-        }
-        fields.put(32, u64::from(self.cntkctl));
-        fields.put(32, u64::from(self.cnthctl));
-        fields.put(64, self.cntvoff);
-        fields.put(64, self.cntpoff);
-        for timer in &self.timers {
-            fields.put(64, timer.cval);
-            fields.put_bit(timer.enable);
-            fields.put_bit(timer.imask);
+        let mut packer = Packer::new(&mut bytes);
+        for field in self.clone().fields_mut() {
+            packer.put(field.bits(), field.value());
         }
         bytes
     }
@@ -53,21 +44,12 @@ impl State {
     /// The state of an image. Only the one image of a state is taken, so that nothing that stands
     /// in the bytes stays unseen.
     pub fn from_image(bytes: &[u8; IMAGE_BYTES]) -> Result<State, ImageError> {
-        let mut fields = Unpacker::new(bytes);
+        let mut unpacker = Unpacker::new(bytes);
         let mut state = State::default();
-        for (_, fact) in state.facts_mut() {
-            *fact = fields.take_bit();
+        for mut field in state.fields_mut() {
+            field.set(unpacker.take(field.bits()));
         }
-        state.cntkctl = fields.take(32) as u32;
-        state.cnthctl = fields.take(32) as u32;
-        state.cntvoff = fields.take(64);
-        state.cntpoff = fields.take(64);
-        for timer in &mut state.timers {
-            timer.cval = fields.take(64);
-            timer.enable = fields.take_bit();
-            timer.imask = fields.take_bit();
-        }
-        if !fields.only_zeros_until(IMAGE_BYTES - 1) {
+        if !unpacker.only_zeros_until(IMAGE_BYTES - 1) {
             return Err(ImageError::Padding);
         }
         match bytes[IMAGE_BYTES - 1] {
@@ -82,20 +64,9 @@ mod tests {
     use super::*;
     use crate::state::Timer;
 
-    fn start_state() -> State {
-        State {
-            vhe: true,
-            sel2: true,
-            ns: true,
-            cntkctl: 0x303,
-            cntvoff: 400,
-            ..State::default()
-        }
-    }
-
     #[test]
     fn the_fields_stand_where_the_format_says() {
-        let mut state = start_state();
+        let mut state = State::bench();
         state.timers[0].cval = u64::MAX;
         state.timers[5].imask = true;
         let image = state.to_image();
@@ -131,7 +102,7 @@ mod tests {
 
     #[test]
     fn a_damaged_image_is_no_image() {
-        let image = start_state().to_image();
+        let image = State::bench().to_image();
         let damaged = |place: usize, byte: u8| {
             let mut copy = image;
             copy[place] = byte;

@@ -40,6 +40,10 @@ impl Register {
         Register::that(|register| register.name.eq_ignore_ascii_case(name))
     }
 
+    pub(crate) fn names() -> Vec<&'static str> {
+        REGISTERS.iter().map(|register| register.name).collect()
+    }
+
     pub(crate) fn encoded(encoding: (u32, u32, u32)) -> Option<Register> {
         Register::that(|register| register.encoding == encoding)
     }

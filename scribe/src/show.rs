@@ -3,10 +3,12 @@
 use std::fmt;
 
 use crate::answer::Answer;
+use crate::fields::changes;
 use crate::image::{ImageError, IMAGE_BYTES};
 use crate::record::{Record, RECORD_BYTES};
 use crate::state::State;
 use crate::words;
+use crate::written::Written;
 
 /// Why bytes cannot be shown.
 #[derive(Clone, Debug, PartialEq, Eq)]
@@ -24,6 +26,11 @@ pub enum Unshowable {
     /// A state image of another length.
     ImageLength(usize),
     Image(ImageError),
+    /// What probe wrote has another length than is due.
+    Written {
+        found: usize,
+        due: usize,
+    },
 }
 
 impl fmt::Display for Unshowable {
@@ -41,18 +48,16 @@ impl fmt::Display for Unshowable {
                 write!(f, "the state image has {length} bytes, not {IMAGE_BYTES}")
             }
             Unshowable::Image(error) => write!(f, "the state image is damaged: {error}"),
+            Unshowable::Written { found, due } => {
+                write!(f, "probe wrote {found} bytes where {due} were due")
+            }
         }
     }
 }
 
 /// The records of a journal, one a line.
 pub fn journal(journal: &[u8]) -> Result<String, Unshowable> {
-    let records = records_of(journal, "journal")?;
-    Ok(lines(
-        records
-            .iter()
-            .map(|bytes| words::record(&Record::unpack(bytes))),
-    ))
+    Ok(lines(records(journal)?.iter().map(words::record)))
 }
 
 /// The answers of a log, one a line.
@@ -88,16 +93,32 @@ pub fn side_by_side(journal: &[u8], answers: &[u8]) -> Result<String, Unshowable
     )))
 }
 
-/// A state image, one field a line.
+/// A state image as the text that packs to it.
 pub fn state(image: &[u8]) -> Result<String, Unshowable> {
-    let image = image
-        .try_into()
-        .map_err(|_| Unshowable::ImageLength(image.len()))?;
-    let state = State::from_image(image).map_err(Unshowable::Image)?;
-    let fields = words::state(&state).into_iter();
-    Ok(lines(
-        fields.map(|(name, value)| format!("{name}: {value}")),
-    ))
+    Ok(words::state_text(&state_in(image)?))
+}
+
+/// How a run ends: what `probe` wrote on a state and a journal, but for the answers.
+pub fn end(image: &[u8], journal: &[u8], written: &[u8]) -> Result<String, Unshowable> {
+    let first = state_in(image)?;
+    let records = records(journal)?;
+    let last = Written::of(written, records.len())?;
+    let count = records.last().map(|record| record.count);
+    let differs = words::changes(&changes(&first, &last.state));
+    Ok(differs + &words::lines(&last.lines, count.unwrap_or_default()))
+}
+
+/// The state of an image.
+pub fn state_in(image: &[u8]) -> Result<State, Unshowable> {
+    let length = Unshowable::ImageLength(image.len());
+    let image = image.try_into().map_err(|_| length)?;
+    State::from_image(image).map_err(Unshowable::Image)
+}
+
+/// The records of a journal.
+pub fn records(journal: &[u8]) -> Result<Vec<Record>, Unshowable> {
+    let records = records_of(journal, "journal")?;
+    Ok(records.iter().map(Record::unpack).collect())
 }
 
 fn records_of<'a>(

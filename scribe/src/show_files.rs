@@ -1,4 +1,4 @@
-//! `scribe show`: the files that it is asked for, in words.
+//! `scribe show` and `scribe end`: the files that they are asked for, in words.
 
 use scribe::show::{self, Unshowable};
 
@@ -66,6 +66,12 @@ fn show_text(file: &str, answers: Option<&str>) -> Result<String, Failure> {
     let entries = entries(file, &text)?;
     let shown = show_journal(&scribe::journal_of(&entries), answers)?;
     Ok(scribe::with_comments(&shown, &entries))
+}
+
+/// `scribe end`: how a run on a state and a journal ended, by what `probe` wrote.
+pub(crate) fn end(state: &str, journal: &str, written: &str) -> Result<Vec<u8>, Failure> {
+    let ended = show::end(&read(state)?, &read(journal)?, &read(written)?);
+    ended.map(String::into_bytes).map_err(unshowable)
 }
 
 fn unshowable(error: Unshowable) -> Failure {

@@ -1,4 +1,4 @@
-//! A timer state by its fields.
+//! A timer state.
 
 /// The names of the six timers, in the order in which a state has them.
 pub const TIMERS: [&str; 6] = ["CNTP", "CNTV", "CNTHP", "CNTHV", "CNTHPS", "CNTHVS"];
@@ -28,21 +28,15 @@ pub struct State {
 }
 
 impl State {
-    /// The yes/no facts with their names, in the order in which an image has them.
-    pub(crate) fn facts(mut self) -> [(&'static str, bool); 8] {
-        self.facts_mut().map(|(name, fact)| (name, *fact))
-    }
-
-    pub(crate) fn facts_mut(&mut self) -> [(&'static str, &mut bool); 8] {
-        [
-            ("VHE", &mut self.vhe),
-            ("SEL2", &mut self.sel2),
-            ("ECV", &mut self.ecv),
-            ("NS", &mut self.ns),
-            ("EEL2", &mut self.eel2),
-            ("ECVEn", &mut self.ecven),
-            ("E2H", &mut self.e2h),
-            ("TGE", &mut self.tge),
-        ]
+    /// The start of the readings from the bench, which `board` starts from.
+    pub fn bench() -> State {
+        State {
+            vhe: true,
+            sel2: true,
+            ns: true,
+            cntkctl: 0x303,
+            cntvoff: 400,
+            ..State::default()
+        }
     }
 }

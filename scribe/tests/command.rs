@@ -1,61 +1,9 @@
-//! The command `scribe` as people use it.
+//! The command `scribe` as people use it: journals and answers.
 
-use std::fs;
-use std::io::Write;
-use std::path::PathBuf;
-use std::process::{Command, Output, Stdio};
+mod common;
 
-use scribe::{Answer, Record, State, RECORD_BYTES, RECORD_LIMIT};
-
-fn scribe(arguments: &[&str], input: &[u8]) -> Output {
-    let mut child = Command::new(env!("CARGO_BIN_EXE_scribe"))
-        .args(arguments)
-        .stdin(Stdio::piped())
-        .stdout(Stdio::piped())
-        .stderr(Stdio::piped())
-        .spawn()
-        .expect("scribe runs");
-    let mut stdin = child.stdin.take().expect("a pipe");
-    // A usage error ends the command before it reads; the broken pipe is then no failure.
-    let _ = stdin.write_all(input);
-    drop(stdin);
-    child.wait_with_output().expect("scribe ends")
-}
-
-/// What scribe printed, its exit code being 0.
-fn done(output: Output) -> Vec<u8> {
-    let errors = String::from_utf8_lossy(&output.stderr);
-    assert_eq!(output.status.code(), Some(0), "{errors}");
-    output.stdout
-}
-
-/// What scribe said on standard error, nothing having been written to standard output.
-fn failed(output: Output, code: i32) -> String {
-    assert_eq!(output.status.code(), Some(code));
-    assert!(output.stdout.is_empty(), "nothing is written on an error");
-    String::from_utf8(output.stderr).expect("text")
-}
-
-/// A file that goes away with the test.
-struct Scratch(PathBuf);
-
-impl Scratch {
-    fn new(name: &str, bytes: &[u8]) -> Scratch {
-        let path = PathBuf::from(env!("CARGO_TARGET_TMPDIR")).join(name);
-        fs::write(&path, bytes).expect("a scratch file");
-        Scratch(path)
-    }
-
-    fn path(&self) -> &str {
-        self.0.to_str().expect("a plain path")
-    }
-}
-
-impl Drop for Scratch {
-    fn drop(&mut self) {
-        let _ = fs::remove_file(&self.0);
-    }
-}
+use common::{done, failed, scribe, Scratch};
+use scribe::{Answer, Record, RECORD_BYTES, RECORD_LIMIT};
 
 /// A read that is done.
 fn done_with(rt: u8, value: u64, mask: u64) -> Answer {
@@ -221,35 +169,12 @@ fn a_refused_run_has_no_answers() {
 }
 
 #[test]
-fn a_state_image_is_shown_field_by_field() {
-    let mut state = State {
-        vhe: true,
-        cntkctl: 0x303,
-        cntvoff: 400,
-        ..State::default()
-    };
-    state.timers[1].enable = true;
-    state.timers[1].cval = 1500;
-    let shown = done(scribe(&["show", "--state", "-"], &state.to_image()));
-    let shown = String::from_utf8(shown).expect("text");
-    for line in [
-        "VHE: yes",
-        "ECV: no",
-        "CNTKCTL_EL1: 0x00000303 EL0PCTEN EL0VCTEN EL0VTEN EL0PTEN",
-        "CNTVOFF_EL2: 400",
-        "CNTV: CVAL 1500, enabled",
-        "CNTHVS: CVAL 0, disabled",
-    ] {
-        assert!(shown.lines().any(|shown| shown == line), "{line}\n{shown}");
-    }
-}
-
-#[test]
 fn bad_text_is_told_with_line_and_column_and_nothing_is_written() {
     let text = b"EL1 MRS X0, CNTVCT_EL0 @ 1000\n\nEL1 MRS X0, CNTXCT_EL0 @ 1000\n";
     assert_eq!(
         failed(scribe(&["pack"], text), 1),
-        "<stdin>:3:13: expected the name of a timer register, found `CNTXCT_EL0`\n"
+        "<stdin>:3:13: expected the name of a timer register, found `CNTXCT_EL0`; \
+         nearest: CNTPCT_EL0, CNTVCT_EL0\n"
     );
     let file = Scratch::new("bad.txt", b"EL1 MSR CNTV_CTL_EL0, X1 @ 1");
     let said = failed(scribe(&["pack", file.path()], b""), 1);
@@ -269,10 +194,6 @@ fn bad_bytes_are_refused_and_nothing_is_written() {
     assert!(said.contains("the journal has 25 bytes"), "{said}");
     let said = failed(scribe(&["show", "--answers", "-"], &[0; 23]), 1);
     assert!(said.contains("the answer log has 23 bytes"), "{said}");
-    let said = failed(scribe(&["show", "--state", "-"], &[0; 127]), 1);
-    assert!(said.contains("127 bytes, not 128"), "{said}");
-    let said = failed(scribe(&["show", "--state", "-"], &[0; 128]), 1);
-    assert!(said.contains("byte 127 is 0x00"), "{said}");
     let answers = [0; 2 * RECORD_BYTES];
     let journal = Scratch::new("short.journal", &[0; RECORD_BYTES]);
     let arguments = ["show", "--journal", journal.path(), "--answers", "-"];
@@ -293,11 +214,28 @@ fn bad_usage_has_its_own_exit_code() {
         &["show", "--text", "-", "--journal", "/dev/null"],
         &["show", "--state", "/dev/null", "--state", "/dev/null"],
         &["pack", "--fast"],
+        &["pack-state", "--fast"],
+        &["pack-state", "a", "b"],
         &["kind", "--fast"],
+        &["end", "a", "b"],
     ] {
         let said = failed(scribe(arguments, b""), 2);
         assert!(said.contains("--help"), "{said}");
     }
-    let help = done(scribe(&["--help"], b""));
-    assert!(String::from_utf8_lossy(&help).contains("scribe pack [FILE]"));
+}
+
+#[test]
+fn help_has_each_command_and_the_exit_statuses_and_fits_a_terminal() {
+    let help = String::from_utf8(done(scribe(&["--help"], b""))).expect("text");
+    for said in [
+        "scribe pack [FILE]",
+        "scribe pack-state [FILE]",
+        "scribe end STATE JOURNAL WRITTEN",
+        "scribe timeline STATE JOURNAL [--svg FILE] -- PROBE",
+        "scribe kind [FILE]",
+        "exit: 0 done, 1 ",
+    ] {
+        assert!(help.contains(said), "{said}");
+    }
+    assert!(help.lines().all(|line| line.chars().count() <= 80));
 }

@@ -33,6 +33,12 @@ impl FaultInLine {
         }
     }
 
+    /// The fault with the names that were perhaps meant.
+    pub(super) fn with_nearest(mut self, names: &[&str]) -> FaultInLine {
+        self.message += &format!("; nearest: {}", names.join(", "));
+        self
+    }
+
     /// The fault in the line of that index, which counts from 0.
     pub(super) fn at(self, index: usize) -> Fault {
         Fault {

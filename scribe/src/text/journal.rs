@@ -9,7 +9,7 @@
 //! ```
 //!
 //! `= operand` may be left out of a read, of a write from XZR and of a `WORD` line, and is 0 then;
-//! `RESERVED bits` sets the reserved bits of any record.
+//! an operand may be negative. `RESERVED bits` sets the reserved bits of any record.
 
 use crate::instruction::{Direction, Instruction, XZR};
 use crate::record::Record;
@@ -17,6 +17,7 @@ use crate::register::Register;
 
 use super::fault::{Fault, Parsed};
 use super::line::Line;
+use super::nearest::nearest;
 use super::token::comment;
 
 /// A record of a text, with the comment that stands behind it in its line.
@@ -142,7 +143,13 @@ fn rt(line: &mut Line) -> Parsed<u8> {
 fn register(line: &mut Line) -> Parsed<Register> {
     let wanted = "the name of a timer register";
     let token = line.next(wanted)?;
-    Register::named(token.text).ok_or_else(|| token.fault(wanted))
+    let unknown = || {
+        let names = Register::names();
+        token
+            .fault(wanted)
+            .with_nearest(&nearest(token.text, &names))
+    };
+    Register::named(token.text).ok_or_else(unknown)
 }
 
 fn operand(line: &mut Line, may_be_left_out: bool) -> Parsed<u64> {
@@ -150,7 +157,7 @@ fn operand(line: &mut Line, may_be_left_out: bool) -> Parsed<u64> {
         return Ok(0);
     }
     line.sign("=")?;
-    line.number("an operand", 64)
+    line.signed_number("an operand")
 }
 
 #[cfg(test)]
@@ -213,6 +220,13 @@ mod tests {
     }
 
     #[test]
+    fn an_operand_may_be_negative() {
+        let five_ago = one("EL1 MSR CNTV_TVAL_EL0, X1 = -5 @ 1000");
+        assert_eq!(five_ago.operand, u64::MAX - 4);
+        assert_eq!(one("WORD 0 EL0 = -1 @ 0").operand, u64::MAX);
+    }
+
+    #[test]
     fn comments_and_blank_lines_make_no_record() {
         let text = "# a title\n\n  \nEL0 MRS X0, CNTVCT_EL0 @ 1 # at the end\n";
         assert_eq!(entries(text).map(|records| records.len()), Ok(1));
@@ -260,7 +274,8 @@ mod tests {
         let fault = pack("EL1 MRS X0, CNTX_EL0 @ 1").expect_err("no such register");
         assert_eq!(
             fault.to_string(),
-            "1:13: expected the name of a timer register, found `CNTX_EL0`"
+            "1:13: expected the name of a timer register, found `CNTX_EL0`; \
+             nearest: CNTPCT_EL0, CNTVCT_EL0"
         );
     }
 }

@@ -4,7 +4,7 @@ use std::iter::Peekable;
 use std::vec::IntoIter;
 
 use super::fault::{FaultInLine, Parsed};
-use super::number::number_of;
+use super::number::{number_of, signed_number_of};
 use super::token::{tokens, Token};
 
 /// What is left of a line. Each part of it is asked for in the words that a fault tells it with.
@@ -61,11 +61,32 @@ impl<'a> Line<'a> {
         }
     }
 
+    pub(super) fn next_is_number(&mut self) -> bool {
+        let begins_one = |first: char| first.is_ascii_digit() || first == '-';
+        let next = self.rest.peek();
+        next.is_some_and(|token| token.text.starts_with(begins_one))
+    }
+
     pub(super) fn number(&mut self, what: &str, bits: u32) -> Parsed<u64> {
         let wanted = format!("{what} of at most {bits} bits, decimal or 0x");
         let token = self.next(&wanted)?;
         number_of(token.text)
             .filter(|number| u64::MAX >> (64 - bits) >= *number)
+            .ok_or_else(|| token.fault(&wanted))
+    }
+
+    /// A number of 64 bits, which may be written as a negative one.
+    pub(super) fn signed_number(&mut self, what: &str) -> Parsed<u64> {
+        let wanted = format!("{what} of at most 64 bits, decimal, 0x or negative like -5");
+        let token = self.next(&wanted)?;
+        signed_number_of(token.text).ok_or_else(|| token.fault(&wanted))
+    }
+
+    pub(super) fn bit(&mut self, what: &str) -> Parsed<u64> {
+        let wanted = format!("{what}, 0 or 1");
+        let token = self.next(&wanted)?;
+        number_of(token.text)
+            .filter(|number| *number < 2)
             .ok_or_else(|| token.fault(&wanted))
     }
 

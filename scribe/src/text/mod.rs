@@ -3,9 +3,12 @@
 mod fault;
 mod journal;
 mod line;
+mod nearest;
 mod number;
+mod state;
 mod token;
 
 pub use fault::Fault;
 pub use journal::{entries, journal_of, pack, Entry};
 pub use number::number_of;
+pub use state::state_of;

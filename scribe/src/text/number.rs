@@ -10,6 +10,15 @@ pub fn number_of(text: &str) -> Option<u64> {
     plain.then(|| u64::from_str_radix(digits, radix).ok())?
 }
 
+/// A number of 64 bits that may be meant as negative: `-5` stands for the bits of 2^64 - 5.
+pub fn signed_number_of(text: &str) -> Option<u64> {
+    if text.starts_with('-') {
+        text.parse().ok().map(|number: i64| number as u64)
+    } else {
+        number_of(text)
+    }
+}
+
 #[cfg(test)]
 mod tests {
     use super::*;
@@ -35,6 +44,17 @@ mod tests {
             "0xG",
         ] {
             assert_eq!(number_of(text), None, "{text}");
+        }
+    }
+
+    #[test]
+    fn a_negative_number_stands_for_its_64_bits() {
+        assert_eq!(signed_number_of("-5"), Some(u64::MAX - 4));
+        assert_eq!(signed_number_of("-0"), Some(0));
+        assert_eq!(signed_number_of("-9223372036854775808"), Some(1 << 63));
+        assert_eq!(signed_number_of("0xFF"), Some(255));
+        for text in ["-", "--5", "-+5", "-0x5", "- 5", "-9223372036854775809"] {
+            assert_eq!(signed_number_of(text), None, "{text}");
         }
     }
 }

@@ -1,10 +1,16 @@
-//! One record, answer or state in words.
+//! One record, answer or state in words, and the end of a run.
 
 mod answer;
+mod end;
 mod number;
 mod record;
 mod state;
 
 pub use answer::{answer, lone_answer};
+pub use end::{changes, lines};
+pub(crate) use number::number;
 pub use record::record;
-pub use state::state;
+pub use state::{state, state_text};
+
+/// What fits a terminal.
+pub(crate) const COLUMNS: usize = 80;

@@ -3,7 +3,7 @@
 /// Numbers below this are written decimal, others in hexadecimal.
 const DECIMAL_BELOW: u64 = 1_000_000;
 
-pub(super) fn number(number: u64) -> String {
+pub(crate) fn number(number: u64) -> String {
     if number < DECIMAL_BELOW {
         number.to_string()
     } else {

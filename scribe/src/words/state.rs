@@ -1,75 +1,195 @@
-//! A state in words, field by field.
+//! A state as the text that packs to it, one register a line.
 
-use crate::control::{cnthctl, set_bits, CNTKCTL};
-use crate::state::{State, Timer, TIMERS};
+use crate::control::{bits_of, is_of_ecv};
+use crate::fields::{arm_name, registers, FieldName};
+use crate::state::State;
 
-use super::number::value;
+use super::number::number;
+use super::COLUMNS;
 
-/// The fields of a state in the order of its image, each with its name.
+/// The registers of a state in the order of its image, as Arm calls them, with what they hold.
 pub fn state(state: &State) -> Vec<(&'static str, String)> {
-    let controls = |register, bits| {
-        let shown = format!("{register:#010X} {}", set_bits(register, bits).join(" "));
-        shown.trim_end().to_string()
+    let said = |register| (arm_name(register), held(state, register));
+    registers().into_iter().map(said).collect()
+}
+
+/// A state as a text.
+pub fn state_text(state: &State) -> String {
+    let line = |register| {
+        let said = format!("{register} = {}", held(state, register));
+        with_notes(said, &notes(state, register))
     };
-    let mut fields = state
-        .facts()
-        .map(|(name, fact)| (name, yes_or_no(fact)))
-        .to_vec();
-    fields.extend([
-        ("CNTKCTL_EL1", controls(state.cntkctl, CNTKCTL)),
-        ("CNTHCTL_EL2", controls(state.cnthctl, cnthctl(state.e2h))),
-        ("CNTVOFF_EL2", value(state.cntvoff)),
-        ("CNTPOFF_EL2", value(state.cntpoff)),
-    ]);
-    fields.extend(TIMERS.into_iter().zip(state.timers.map(timer)));
-    fields
+    registers().into_iter().map(line).collect()
 }
 
-fn yes_or_no(fact: bool) -> String {
-    if fact { "yes" } else { "no" }.to_string()
+fn held(state: &State, register: &str) -> String {
+    let of_register = state.fields().into_iter();
+    let of_register = of_register.filter(|(name, _)| name.register == register);
+    let held: Vec<String> = of_register.map(field).collect();
+    held.join(", ")
 }
 
-fn timer(timer: Timer) -> String {
-    let enable = if timer.enable { "enabled" } else { "disabled" };
-    let imask = if timer.imask { ", masked" } else { "" };
-    format!("CVAL {}, {enable}{imask}", value(timer.cval))
+fn field((name, value): (FieldName, u64)) -> String {
+    match name.part {
+        Some(part) => format!("{part} {}", number(value)),
+        None if is_control(name.register) && value != 0 => format!("{value:#X}"),
+        None => number(value),
+    }
+}
+
+fn is_control(register: &str) -> bool {
+    bits_of(register, false).is_some()
+}
+
+/// What a reader would look up: the bits of a control register, and negative numbers.
+fn notes(state: &State, register: &str) -> Vec<String> {
+    let of_register = state.fields().into_iter();
+    let of_register = of_register.filter(|(name, _)| name.register == register);
+    of_register
+        .flat_map(|(name, value)| match bits_of(register, state.e2h) {
+            Some(bits) => named_bits(value, bits, state.ecv),
+            None => negative(name, value).into_iter().collect(),
+        })
+        .collect()
+}
+
+/// Without ECV its bits are told only where one is set, which no state can have.
+fn named_bits(word: u64, bits: &[(&str, u32)], ecv: bool) -> Vec<String> {
+    bits.iter()
+        .map(|&(name, place)| (name, place, word >> place & 1))
+        .filter(|&(_, place, bit)| !is_of_ecv(place) || ecv || bit == 1)
+        .map(|(name, _, bit)| format!("{name} {bit}"))
+        .collect()
+}
+
+fn negative(name: FieldName, value: u64) -> Option<String> {
+    let part = name.part.map(|part| format!("{part} ")).unwrap_or_default();
+    (value >> 63 == 1).then(|| format!("{part}{}", value as i64))
+}
+
+/// A line with its notes as a comment. What does not fit goes on below, in the same column.
+fn with_notes(said: String, notes: &[String]) -> String {
+    let margin = said.len();
+    let mut text = said;
+    let mut line = String::new();
+    for note in notes {
+        if line.is_empty() {
+            line = format!(" # {note}");
+        } else if margin + line.len() + note.len() + 3 > COLUMNS {
+            text += &format!("{line},\n{:margin$}", "");
+            line = format!(" # {note}");
+        } else {
+            line += &format!(", {note}");
+        }
+    }
+    text + &line + "\n"
 }
 
 #[cfg(test)]
 mod tests {
     use super::*;
+    use crate::state::Timer;
+    use crate::text::state_of;
 
-    #[test]
-    fn a_state_names_its_bits_by_e2h() {
-        let mut given = State {
-            cnthctl: 0x803,
-            ..State::default()
-        };
-        let cnthctl = |given: &State| state(given)[9].clone();
-        let shown = |bits: &str| ("CNTHCTL_EL2", bits.to_string());
-        assert_eq!(cnthctl(&given), shown("0x00000803 EL1PCTEN EL1PCEN"));
-        given.e2h = true;
-        assert_eq!(
-            cnthctl(&given),
-            shown("0x00000803 EL0PCTEN EL0VCTEN EL1PTEN")
-        );
-        given.cnthctl = 0;
-        assert_eq!(cnthctl(&given), shown("0x00000000"));
+    fn line_of(given: &State, register: &str) -> String {
+        let text = state_text(given);
+        let start = format!("{register} = ");
+        let line = text.lines().find(|line| line.starts_with(&start));
+        line.expect(register).to_string()
     }
 
     #[test]
-    fn a_timer_says_whether_it_is_on_and_masked() {
-        let mut given = State::default();
-        let cntv = |given: &State| state(given)[13].clone();
-        assert_eq!(cntv(&given), ("CNTV", "CVAL 0, disabled".to_string()));
+    fn the_start_of_the_bench_reads_so() {
+        assert_eq!(
+            state_text(&State::bench()),
+            "FEATURES = VHE 1, SEL2 1, ECV 0\n\
+             SCR_EL3 = NS 1, EEL2 0, ECVEn 0\n\
+             HCR_EL2 = E2H 0, TGE 0\n\
+             CNTKCTL = 0x303 # EL0PCTEN 1, EL0VCTEN 1, EL0VTEN 1, EL0PTEN 1\n\
+             CNTHCTL = 0 # EL1PCTEN 0, EL1PCEN 0\n\
+             CNTVOFF = 400\n\
+             CNTPOFF = 0\n\
+             CNTP = CVAL 0, ENABLE 0, IMASK 0\n\
+             CNTV = CVAL 0, ENABLE 0, IMASK 0\n\
+             CNTHP = CVAL 0, ENABLE 0, IMASK 0\n\
+             CNTHV = CVAL 0, ENABLE 0, IMASK 0\n\
+             CNTHPS = CVAL 0, ENABLE 0, IMASK 0\n\
+             CNTHVS = CVAL 0, ENABLE 0, IMASK 0\n"
+        );
+    }
+
+    #[test]
+    fn a_state_names_its_bits_by_e2h_and_those_of_ecv_where_they_matter() {
+        let mut given = State {
+            cnthctl: 0x803,
+            ..State::bench()
+        };
+        let cnthctl = |given: &State| line_of(given, "CNTHCTL");
+        assert_eq!(cnthctl(&given), "CNTHCTL = 0x803 # EL1PCTEN 1, EL1PCEN 1");
+        given.cnthctl = 0x2000;
+        assert_eq!(
+            cnthctl(&given),
+            "CNTHCTL = 0x2000 # EL1PCTEN 0, EL1PCEN 0, EL1TVT 1"
+        );
+        given.ecv = true;
+        assert_eq!(
+            cnthctl(&given),
+            "CNTHCTL = 0x2000 # EL1PCTEN 0, EL1PCEN 0, ECV 0, EL1TVT 1, EL1TVCT 0"
+        );
+        given.e2h = true;
+        assert!(cnthctl(&given).starts_with("CNTHCTL = 0x2000 # EL0PCTEN 0, EL0VCTEN 0"));
+    }
+
+    #[test]
+    fn a_negative_number_is_told_beside_it() {
+        let mut given = State::bench();
+        given.cntvoff = u64::MAX - 99;
         given.timers[1] = Timer {
-            cval: 1500,
+            cval: u64::MAX,
             enable: true,
             imask: true,
         };
         assert_eq!(
-            cntv(&given),
-            ("CNTV", "CVAL 1500, enabled, masked".to_string())
+            line_of(&given, "CNTVOFF"),
+            "CNTVOFF = 0xFFFFFFFFFFFFFF9C # -100"
         );
+        assert_eq!(
+            line_of(&given, "CNTV"),
+            "CNTV = CVAL 0xFFFFFFFFFFFFFFFF, ENABLE 1, IMASK 1 # CVAL -1"
+        );
+    }
+
+    #[test]
+    fn the_widest_state_fits_a_terminal_and_comes_back() {
+        let mut widest = State::default();
+        for mut field in widest.fields_mut() {
+            field.set(u64::MAX);
+        }
+        widest.timers = [Timer {
+            cval: 1 << 63,
+            enable: true,
+            imask: true,
+        }; 6];
+        let text = state_text(&widest);
+        assert!(text.lines().all(|line| line.len() <= COLUMNS), "{text}");
+        assert!(
+            text.contains("EL1PCTEN 1,\n                     # EL1PTEN 1"),
+            "{text}"
+        );
+        assert_eq!(state_of(&text), Ok(widest));
+    }
+
+    #[test]
+    fn every_state_comes_back_from_its_text() {
+        for round in 0..500u64 {
+            let mut given = State::default();
+            for (place, mut field) in given.fields_mut().into_iter().enumerate() {
+                let mixed = (round * 64 + place as u64 + 1).wrapping_mul(0x9E37_79B9_7F4A_7C15);
+                field.set(mixed >> (mixed >> 58));
+            }
+            let text = state_text(&given);
+            assert_eq!(state_of(&text), Ok(given), "{text}");
+            assert_eq!(state_of(&format!("ALL ZERO\n{text}")), Ok(given), "{text}");
+        }
     }
 }

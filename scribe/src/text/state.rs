@@ -1,0 +1,292 @@
+//! Lines of text to a state.
+//!
+//! A line is a register, a comment after `#`, or blank; in any order, each register once:
+//!
+//! ```text
+//! FEATURES = ECV 1
+//! CNTHCTL = 0x3                # or by its bits: EL1PCTEN 1, EL1PCEN 1
+//! CNTVOFF = -400
+//! CNTV = CVAL 650, ENABLE 1
+//! ```
+//!
+//! What is left out, a register or a field of one, is as in the bench's start; it is zero where
+//! `ALL ZERO` stands before the first register.
+
+use crate::control::{bits_of, Bit};
+use crate::fields::{arm_name, registers, Field};
+use crate::state::State;
+
+use super::fault::{Fault, FaultInLine, Parsed};
+use super::line::Line;
+use super::nearest::nearest;
+
+/// A line that begins with a register, up to its `=`.
+struct Row<'a> {
+    index: usize,
+    register: &'static str,
+    rest: Line<'a>,
+}
+
+/// The state that a text describes.
+pub fn state_of(text: &str) -> Result<State, Fault> {
+    let mut start = State::bench();
+    let mut rows = Vec::new();
+    for (index, line) in text.lines().enumerate() {
+        let mut line = Line::of(line);
+        if line.is_over() {
+            continue;
+        }
+        let told = |fault: FaultInLine| fault.at(index);
+        if rows.is_empty() && line.next_is("ALL") {
+            all_zero(line).map_err(told)?;
+            start = State::default();
+        } else {
+            rows.push(row(index, line, &rows).map_err(told)?);
+        }
+    }
+    filled(start, rows)
+}
+
+fn all_zero(mut line: Line) -> Parsed<()> {
+    line.sign("ALL")?;
+    line.sign("ZERO")?;
+    line.end()
+}
+
+fn row<'a>(index: usize, mut line: Line<'a>, before: &[Row]) -> Parsed<Row<'a>> {
+    let wanted = "a register of a state";
+    let token = line.next(wanted)?;
+    if token.is("ALL") {
+        return Err(token.fault("`ALL ZERO` before the first register only"));
+    }
+    let names = registers();
+    let is_it = |name: &&&'static str| token.is(name) || token.is(arm_name(name));
+    let Some(&register) = names.iter().find(is_it) else {
+        let nearest = nearest(token.text, &names);
+        return Err(token.fault(wanted).with_nearest(&nearest));
+    };
+    if let Some(first) = before.iter().find(|row| row.register == register) {
+        let line = first.index + 1;
+        return Err(token.fault(&format!("each register once, and line {line} has it")));
+    }
+    line.sign("=")?;
+    Ok(Row {
+        index,
+        register,
+        rest: line,
+    })
+}
+
+/// The state with what the rows say, or the fault that stands first in the text.
+fn filled(mut state: State, mut rows: Vec<Row>) -> Result<State, Fault> {
+    // E2H picks the names of CNTHCTL's bits, so HCR_EL2 goes before it wherever it stands.
+    let order = registers();
+    rows.sort_by_key(|row| order.iter().position(|name| *name == row.register));
+    let faults = rows.into_iter().filter_map(|row| {
+        let filled = fill(&mut state, row.register, row.rest);
+        filled.err().map(|fault| fault.at(row.index))
+    });
+    match faults.min_by_key(|fault| fault.line) {
+        Some(fault) => Err(fault),
+        None => Ok(state),
+    }
+}
+
+fn fill(state: &mut State, register: &'static str, mut line: Line) -> Parsed<()> {
+    let bits = bits_of(register, state.e2h);
+    let mut fields = state.fields_mut();
+    fields.retain(|field| field.name.register == register);
+    match (bits, &mut fields[..]) {
+        (Some(bits), [word]) if !line.next_is_number() => bits_by_name(&mut line, word, bits)?,
+        (_, [whole]) if whole.name.part.is_none() => whole.set(number(&mut line, whole)?),
+        (_, parts) => parts_by_name(&mut line, parts)?,
+    }
+    line.end()
+}
+
+fn bits_by_name(line: &mut Line, word: &mut Field, bits: &[Bit]) -> Parsed<()> {
+    let names: Vec<&str> = bits.iter().map(|(name, _)| *name).collect();
+    let what = format!("a number, or a bit of {}", word.name);
+    each_named(line, &what, &names, |line, chosen| {
+        let (name, place) = bits[chosen];
+        let others = word.value() & !(1 << place);
+        word.set(others | line.bit(name)? << place);
+        Ok(())
+    })
+}
+
+fn parts_by_name(line: &mut Line, parts: &mut [Field]) -> Parsed<()> {
+    let names: Vec<&str> = parts.iter().filter_map(|part| part.name.part).collect();
+    let what = format!("a field of {}", parts[0].name.register);
+    each_named(line, &what, &names, |line, chosen| {
+        let part = &mut parts[chosen];
+        part.set(number(line, part)?);
+        Ok(())
+    })
+}
+
+/// Takes `NAME value`, and after each comma another; no name twice.
+fn each_named(
+    line: &mut Line,
+    what: &str,
+    names: &[&str],
+    mut take: impl FnMut(&mut Line, usize) -> Parsed<()>,
+) -> Parsed<()> {
+    let wanted = format!("{what}: {}", names.join(", "));
+    let mut taken = Vec::new();
+    loop {
+        let token = line.next(&wanted)?;
+        let chosen = names.iter().position(|name| token.is(name));
+        let chosen = chosen.ok_or_else(|| token.fault(&wanted))?;
+        if taken.contains(&chosen) {
+            return Err(token.fault("each field once"));
+        }
+        taken.push(chosen);
+        take(line, chosen)?;
+        if !line.skip(",") {
+            return Ok(());
+        }
+    }
+}
+
+fn number(line: &mut Line, field: &Field) -> Parsed<u64> {
+    let what = field.name.to_string();
+    match field.bits() {
+        1 => line.bit(&what),
+        64 => line.signed_number(&what),
+        bits => line.number(&what, bits),
+    }
+}
+
+#[cfg(test)]
+mod tests {
+    use super::*;
+    use crate::state::Timer;
+
+    fn state(text: &str) -> State {
+        state_of(text).expect(text)
+    }
+
+    fn fault(text: &str) -> String {
+        state_of(text).expect_err(text).to_string()
+    }
+
+    #[test]
+    fn what_is_left_out_is_the_start_of_the_bench() {
+        assert_eq!(state(""), State::bench());
+        assert_eq!(state("# nothing\n\n"), State::bench());
+        let ecv = State {
+            ecv: true,
+            ..State::bench()
+        };
+        assert_eq!(state("FEATURES = ECV 1"), ecv);
+    }
+
+    #[test]
+    fn what_is_left_out_is_zero_under_the_heading() {
+        assert_eq!(state("# a title\nall zero\n"), State::default());
+        let sel2 = State {
+            sel2: true,
+            ..State::default()
+        };
+        assert_eq!(state("ALL ZERO # but\nFEATURES = SEL2 1"), sel2);
+    }
+
+    #[test]
+    fn a_register_is_a_number_or_its_fields() {
+        let mut wanted = State {
+            cntkctl: 0x302,
+            cnthctl: 0x7000,
+            cntvoff: 0u64.wrapping_sub(400),
+            cntpoff: 0xFF,
+            tge: true,
+            ..State::bench()
+        };
+        wanted.timers[1] = Timer {
+            cval: 650,
+            enable: true,
+            imask: false,
+        };
+        wanted.timers[5].imask = true;
+        let text = "cntv=cval 650,enable 1\nCNTHVS = IMASK 1 # masked\nHCR_EL2 = TGE 1\n\
+                    CNTKCTL = EL0PCTEN 0\nCNTHCTL_EL2 = 0x7000\nCNTVOFF = -400\nCNTPOFF_EL2 = 0xFF";
+        assert_eq!(state(text), wanted);
+    }
+
+    #[test]
+    fn e2h_picks_the_places_of_named_bits_wherever_it_stands() {
+        let text = "CNTHCTL = EL1PCTEN 1";
+        assert_eq!(state(text).cnthctl, 1);
+        assert_eq!(state(&format!("{text}\nHCR_EL2 = E2H 1")).cnthctl, 1 << 10);
+        assert_eq!(
+            fault("CNTHCTL = EL1PTEN 1"),
+            "1:11: expected a number, or a bit of CNTHCTL: EL1PCTEN, EL1PCEN, ECV, EL1TVT, EL1TVCT, \
+             found `EL1PTEN`"
+        );
+    }
+
+    #[test]
+    fn a_fault_says_where_and_what_was_expected() {
+        for (text, said) in [
+            (
+                "CNTVOF = 1",
+                "1:1: expected a register of a state, found `CNTVOF`; nearest: CNTVOFF",
+            ),
+            (
+                "CNTX = 1",
+                "1:1: expected a register of a state, found `CNTX`; nearest: CNTP, CNTV",
+            ),
+            (
+                "\nCNTV = CVAL 1\nCNTVOFF = 1\ncntv = CVAL 2",
+                "4:1: expected each register once, and line 2 has it, found `cntv`",
+            ),
+            (
+                "CNTV = CVAL 1, CVAL 1",
+                "1:16: expected each field once, found `CVAL`",
+            ),
+            (
+                "CNTV = 5",
+                "1:8: expected a field of CNTV: CVAL, ENABLE, IMASK, found `5`",
+            ),
+            (
+                "CNTV = CVAL 1 ENABLE 1",
+                "1:15: expected the end of the line, found `ENABLE`",
+            ),
+            (
+                "CNTV = CVAL 1,",
+                "1:15: expected a field of CNTV: CVAL, ENABLE, IMASK, found the end of the line",
+            ),
+            (
+                "CNTV = ENABLE 2",
+                "1:15: expected CNTV ENABLE, 0 or 1, found `2`",
+            ),
+            (
+                "CNTKCTL = 0x100000000",
+                "1:11: expected CNTKCTL of at most 32 bits, decimal or 0x, found `0x100000000`",
+            ),
+            (
+                "CNTKCTL = -1",
+                "1:11: expected CNTKCTL of at most 32 bits, decimal or 0x, found `-1`",
+            ),
+            (
+                "CNTVOFF = 4oo",
+                "1:11: expected CNTVOFF of at most 64 bits, decimal, 0x or negative like -5, \
+                 found `4oo`",
+            ),
+            ("CNTVOFF 1", "1:9: expected `=`, found `1`"),
+            ("ALL 0", "1:5: expected `ZERO`, found `0`"),
+            (
+                "CNTVOFF = 1\nALL ZERO",
+                "2:1: expected `ALL ZERO` before the first register only, found `ALL`",
+            ),
+        ] {
+            assert_eq!(fault(text), said, "{text}");
+        }
+    }
+
+    #[test]
+    fn of_two_faults_the_first_in_the_text_is_told() {
+        let said = fault("CNTV = CVAL x\nFEATURES = VHE 2");
+        assert!(said.starts_with("1:13: "), "{said}");
+    }
+}
