@@ -1,7 +1,7 @@
 -- A syndrome and a word are two sums of the same seven parts. A part is found again in its place, since all that stands below it is
 -- less than its unit; and a number is the sum of its parts, each cut off in turn from what is left.
 -- Assumes nothing.
-use Prim.Native.Nat.{ℕ, _+_, _*_, _/_, _^_, _<_, _≤_}
+use Prim.Native.Nat.{ℕ, _+_, _*_, _/_, _%_, _^_, _<_, _≤_}
 use mathlib.Core.Bool.{true, and-eq-true-iff}
 use mathlib.Core.Path.{_≡_, ap, _∙_}
 use native.Mathlib.Omega.{arith}
@@ -75,10 +75,10 @@ module _ (p : Parts) (fit : Fit p) where
   bit-20 : bits 20 20 (word p) ≡ p .op0 / 2
   bit-20 = omega arith
 
-syndrome's-fit : (iss : ℕ) → Fit (ofSyndrome iss)
-syndrome's-fit iss =
+fits : (op0 op1 crn crm op2 rt mrs : ℕ) → op0 < 4 → Fit (parts op0 (op1 % 8) (crn % 16) (crm % 16) (op2 % 8) (rt % 32) (mrs % 2))
+fits op0 op1 crn crm op2 rt mrs below =
     record {
-      op0 = omega arith;
+      op0 = below;
       op1 = omega arith;
       crn = omega arith;
       crm = omega arith;
@@ -87,32 +87,26 @@ syndrome's-fit iss =
       mrs = omega arith;
     }
 
+syndrome's-fit : (iss : ℕ) → Fit (ofSyndrome iss)
+syndrome's-fit iss = fits (bits 21 20 iss) _ _ _ _ _ _ (omega arith)
+
 word's-fit : (w : ℕ) → Fit (ofWord w)
-word's-fit w =
-    record {
-      op0 = omega arith;
-      op1 = omega arith;
-      crn = omega arith;
-      crm = omega arith;
-      op2 = omega arith;
-      rt = omega arith;
-      mrs = omega arith;
-    }
+word's-fit w = fits (op0Of w) _ _ _ _ _ _ (omega arith)
 
 -- ---- a number is the sum of its parts
 
 -- what is left of a syndrome from place 1, 5, 10, 14, 17 and 20 on
 syndrome-adds-up :
     (p : Parts) (i i1 i5 i10 i14 i17 i20 : ℕ) →
-    i ≡ i1 * 2 ^ 1 + p .mrs →
-    i1 ≡ i5 * 2 ^ 4 + p .crm →
-    i5 ≡ i10 * 2 ^ 5 + p .rt →
-    i10 ≡ i14 * 2 ^ 4 + p .crn →
-    i14 ≡ i17 * 2 ^ 3 + p .op1 →
-    i17 ≡ i20 * 2 ^ 3 + p .op2 →
-    i20 ≡ p .op0 →
+    (i ≡ i1 * 2 ^ 1 + p .mrs)
+    × (i1 ≡ i5 * 2 ^ 4 + p .crm)
+    × (i5 ≡ i10 * 2 ^ 5 + p .rt)
+    × (i10 ≡ i14 * 2 ^ 4 + p .crn)
+    × (i14 ≡ i17 * 2 ^ 3 + p .op1)
+    × (i17 ≡ i20 * 2 ^ 3 + p .op2)
+    × (i20 ≡ p .op0) →
     syndrome p ≡ i
-syndrome-adds-up p i i1 i5 i10 i14 i17 i20 a b c d e f g = omega arith
+syndrome-adds-up p i i1 i5 i10 i14 i17 i20 (a, b, c, d, e, f, g) = omega arith
 
 is-syndrome : (iss : ℕ) → iss < 2 ^ 22 → syndrome (ofSyndrome iss) ≡ iss
 is-syndrome iss below =
@@ -125,27 +119,21 @@ is-syndrome iss below =
     (iss / 2 ^ 14)
     (iss / 2 ^ 17)
     (iss / 2 ^ 20)
-    (omega arith)
-    (omega arith)
-    (omega arith)
-    (omega arith)
-    (omega arith)
-    (omega arith)
-    (omega arith)
+    (omega arith, omega arith, omega arith, omega arith, omega arith, omega arith, omega arith)
 
 -- what is left of a word from place 5, 8, 12, 16, 19, 21 and 22 on
 word-adds-up :
     (p : Parts) (w w5 w8 w12 w16 w19 w21 w22 : ℕ) →
-    w ≡ w5 * 2 ^ 5 + p .rt →
-    w5 ≡ w8 * 2 ^ 3 + p .op2 →
-    w8 ≡ w12 * 2 ^ 4 + p .crm →
-    w12 ≡ w16 * 2 ^ 4 + p .crn →
-    w16 ≡ w19 * 2 ^ 3 + p .op1 →
-    w19 ≡ w21 * 2 ^ 2 + p .op0 →
-    w21 ≡ w22 * 2 ^ 1 + p .mrs →
-    w22 ≡ 0b1101010100 →
+    (w ≡ w5 * 2 ^ 5 + p .rt)
+    × (w5 ≡ w8 * 2 ^ 3 + p .op2)
+    × (w8 ≡ w12 * 2 ^ 4 + p .crm)
+    × (w12 ≡ w16 * 2 ^ 4 + p .crn)
+    × (w16 ≡ w19 * 2 ^ 3 + p .op1)
+    × (w19 ≡ w21 * 2 ^ 2 + p .op0)
+    × (w21 ≡ w22 * 2 ^ 1 + p .mrs)
+    × (w22 ≡ 0b1101010100) →
     word p ≡ w
-word-adds-up p w w5 w8 w12 w16 w19 w21 w22 a b c d e f g h = omega arith
+word-adds-up p w w5 w8 w12 w16 w19 w21 w22 (a, b, c, d, e, f, g, h) = omega arith
 
 is-word : (w : ℕ) → w < 2 ^ 32 → bits 31 22 w ≡ 0b1101010100 → bits 20 20 w ≡ 1 → word (ofWord w) ≡ w
 is-word w below fixed one =
@@ -159,14 +147,7 @@ is-word w below fixed one =
     (w / 2 ^ 19)
     (w / 2 ^ 21)
     (w / 2 ^ 22)
-    (omega arith)
-    (omega arith)
-    (omega arith)
-    (omega arith)
-    (omega arith)
-    (omega arith)
-    (omega arith)
-    (omega arith)
+    (omega arith, omega arith, omega arith, omega arith, omega arith, omega arith, omega arith, omega arith)
 
 -- ---- the claim
 
