@@ -13,8 +13,9 @@
  * overlap; no other thread touches that memory during the call; and a bool is 0 or 1.
  *
  * Link target/lib/ARCH/libelsterkabel.a, which `tools/library ARCH` writes, for x86_64 and for aarch64. It needs memcpy
- * and nothing else of a C library. For aarch64 it uses no register for floating point and vectors; its accesses need
- * not be aligned, so what is lent and the stack are Normal memory, and SCTLR_ELx.A is 0.
+ * and nothing else of a C library, and under 2 KiB of stack beside what memcpy takes. For aarch64 it uses neither x18
+ * nor a register for floating point and vectors, and has no landing pads for BTI, so it is called directly. It makes
+ * unaligned accesses: what is lent and the stack are Normal memory, and SCTLR_ELx.A is 0.
  */
 #ifndef ELSTERKABEL_H
 #define ELSTERKABEL_H
@@ -50,7 +51,11 @@ enum elsterkabel_number {
 
 /* A bool below that holds anything but 0 or 1 is the host's mistake, and then nothing is promised: fill a state field
    by field, or from zeros, and never from bytes of another origin. In Rust it cannot happen: the binding's types hold
-   Rust's own bool, which safe code can make 0 or 1 alone, and the library stores and returns no other. */
+   Rust's own bool, which safe code can make 0 or 1 alone, and the library stores and returns no other.
+
+   Features and controls are those of the machine that the guest is shown, and not of the core that it runs on: bits of
+   CNTHCTL_EL2 that the host sets to trap the guest's virtual timer are no business of its guest. The desk changes
+   neither. What the guest writes without a trap, as CNTKCTL_EL1, the host puts into the state before it asks. */
 struct elsterkabel_features {
     bool vhe;
     bool sel2;
@@ -106,6 +111,7 @@ struct elsterkabel_answer {
     uint64_t mask; /* the unknown bits of the value */
 };
 
+/* In C++ it is named with `struct`, as a function has the same name. */
 struct elsterkabel_lines {
     uint8_t number; /* 0, or 5 with no line raised */
     bool cntp;
@@ -116,16 +122,16 @@ struct elsterkabel_lines {
     bool cnthvs;
 };
 
-/* One access, on the state. The answer is written whole, whatever it held. */
+/* One access, on the state. Every field of the answer is written, whatever it held. */
 void elsterkabel_access_in(struct elsterkabel_state *state, const struct elsterkabel_access *access,
                            struct elsterkabel_answer *answer);
 
 /* A journal of accesses, run in order on the state; answer i is written to the 24 bytes of the buffer from 24 times i
-   on, and no other byte of it is touched. Gives 0, 7 or 8; on 7 and 8 nothing is written. */
+   on, and no other byte of it is touched. Gives 0, 7 or 8; on 7 and 8 nothing changes. */
 uint8_t elsterkabel_run_in(struct elsterkabel_state *state, const uint8_t *journal, size_t journal_length,
                            uint8_t *answers, size_t answers_length);
 
-/* Which timer lines are raised at a physical count. The lines are written whole. */
+/* Which timer lines are raised at a physical count. Every field of the lines is written. */
 void elsterkabel_lines(const struct elsterkabel_state *state, uint64_t count, struct elsterkabel_lines *lines);
 
 /* The MRS or MSR word of a trap, from the syndrome of its exception of class 0x18: the low bits of ESR_ELx, of which

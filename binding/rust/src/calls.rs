@@ -1,4 +1,5 @@
-//! The archive's functions, as functions and methods of [`State`] that cannot be called wrongly.
+//! The archive's functions, as functions and methods of [`State`] that cannot be called wrongly, if
+//! the archive is of this interface.
 
 use crate::types::{Access, Answer, Lines, State};
 
@@ -57,9 +58,9 @@ impl State {
 
     /// A journal of accesses, run in order on the state; answer i is written to part i of the
     /// buffer, in parts of [`RECORD_BYTES`](crate::RECORD_BYTES), and no other byte of it is
-    /// touched. Gives 0, 7 or 8; on 7 and 8 nothing is written.
+    /// touched. Gives 0, 7 or 8; on 7 and 8 nothing changes.
     #[inline]
-    #[must_use = "on 7 and 8 nothing was written"]
+    #[must_use = "on 7 and 8 there is no answer"]
     pub fn run(&mut self, journal: &[u8], answers: &mut [u8]) -> u8 {
         // SAFETY: the pointers come from references, so none is null and each is aligned, that
         // of an empty slice too. The state and the buffer are readable and writable, the journal

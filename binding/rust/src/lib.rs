@@ -15,6 +15,15 @@
 //! The wrapper keeps for its callers what the language of the proofs cannot see, that pointers
 //! are good and alone; each `unsafe` block says how.
 //!
+//! # What a host keeps to
+//!
+//! It asks [`version`] first, and goes no further if that is not [`VERSION`]. Features and controls of
+//! a state are those of the machine that the guest is shown, and not of the core that it runs on. The
+//! desk changes neither: what the guest writes without a trap, as CNTKCTL_EL1, the host puts into the
+//! state before it asks. On bare metal, for aarch64, what is lent and the stack are Normal memory, and
+//! SCTLR_ELx.A is 0, since the archive makes unaligned accesses; it needs under 2 KiB of stack beside
+//! what `memcpy` takes, and uses neither x18 nor a register for floating point and vectors.
+//!
 //! # Linking
 //!
 //! With the feature `link` the build script names `libelsterkabel.a`, which `tools/library` writes
