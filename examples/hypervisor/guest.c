@@ -24,7 +24,8 @@ static void load_image(void) {
     make_executable(memory, sizeof memory);
 }
 
-/* The guest's machine is Non-secure and has no VHE, SEL2 and ECV; its physical counter and timer are trapped. */
+/* Of the guest's machine, and not of the core: it is Non-secure and has no VHE, SEL2 and ECV, its physical counter and
+   timer are trapped, and of its virtual ones it is not to know that they trap too. */
 static struct elsterkabel_state timers_at_reset(void) {
     return (struct elsterkabel_state){.controls = {.ns = true}, .cntvoff = physical_count() - FIRST_COUNT};
 }

@@ -82,7 +82,8 @@ enum what {
     OWN_TIMER,
     LINE_UP,
     LINE_DOWN,
-    GUEST_INTERRUPTED, /* this and the next two are the guest's notes (guest/calls.h), with their numbers */
+    GUEST_INTERRUPTED, /* this and the next three are the guest's notes (guest/calls.h), with their numbers */
+    GUEST_LOST_REGISTERS,
     GUEST_TRIED,
     GUEST_FAULTED,
 };

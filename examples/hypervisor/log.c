@@ -68,8 +68,7 @@ static void tell_refusal(const struct event *event) {
     static const char *const meanings[] = {[ELSTERKABEL_UNDEFINED] = "Undefined",
                                            [ELSTERKABEL_TRAP_TO_EL1] = "trap to EL1",
                                            [ELSTERKABEL_TRAP_TO_EL2] = "trap to EL2",
-                                           [ELSTERKABEL_NOT_A_TIMER_ACCESS] = "not a timer access",
-                                           [ELSTERKABEL_IMPOSSIBLE_CONTEXT] = "impossible context"};
+                                           [ELSTERKABEL_NOT_A_TIMER_ACCESS] = "not a timer access"};
     say("the desk answers ");
     say_number(event->second);
     say(", ");
@@ -101,6 +100,9 @@ static void tell(const struct event *event) {
         say(attempt_of(event->first));
         say(": ");
         tell_syndrome(event->second);
+        break;
+    case GUEST_LOST_REGISTERS:
+        say("the guest has lost what its registers held");
         break;
     case GUEST_FAULTED:
         say("the guest did not expect ");

@@ -2,6 +2,8 @@
     .section .text.start, "ax"
     .global start
 start:
+    mov x0, #0x80000000 /* EL1 is AArch64; and E2H is 0, since the registers of EL2 are written as they are then */
+    msr hcr_el2, x0
     adrp x0, zeros_start
     adrp x1, zeros_end
 1:  stp xzr, xzr, [x0], #16

@@ -10,10 +10,15 @@ static uint64_t operand_of(const struct guest *guest, uint32_t word) {
     return rt_of(word) == XZR ? 0 : guest->x[rt_of(word)];
 }
 
+/* PSTATE after an instruction that went through: no branch has just been taken, and a single step has been. */
+#define BTYPE (3ull << 10)
+#define SINGLE_STEP (1ull << 21)
+
 static void finish(struct guest *guest, uint32_t word, uint64_t value) {
     if (is_read(word) && rt_of(word) != XZR)
         guest->x[rt_of(word)] = value;
     guest->pc += 4;
+    guest->pstate &= ~(BTYPE | SINGLE_STEP);
 }
 
 static void log_answer(const struct elsterkabel_access *access, const struct elsterkabel_answer *answer) {
@@ -54,7 +59,11 @@ static void answer_access(struct guest *guest, uint32_t word) {
 /* A guest may call with any numbers. */
 static bool take_note(const struct guest *guest) {
     static const enum what meanings[] = {
-        [NOTE_INTERRUPTED] = GUEST_INTERRUPTED, [NOTE_TRIED] = GUEST_TRIED, [NOTE_FAULTED] = GUEST_FAULTED};
+        [NOTE_INTERRUPTED] = GUEST_INTERRUPTED,
+        [NOTE_LOST_REGISTERS] = GUEST_LOST_REGISTERS,
+        [NOTE_TRIED] = GUEST_TRIED,
+        [NOTE_FAULTED] = GUEST_FAULTED,
+    };
     uint64_t note = guest->x[0];
     if (note >= sizeof meanings / sizeof *meanings)
         return false;

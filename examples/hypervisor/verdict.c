@@ -28,32 +28,34 @@ static enum step step_of(const struct event *event) {
     }
 }
 
-/* Each step once, and in its order. */
-static bool find_steps(const struct event *steps[STEPS]) {
+/* Each step of each lease once, and in its order. */
+static bool find_steps(const struct event *steps[LEASES * STEPS]) {
     size_t found = 0;
     for (const struct event *event = first_event(); event < past_last_event(); event++) {
         enum step step = step_of(event);
         if (step == NO_STEP)
             continue;
-        if (step != found)
+        if (step != found % STEPS || found == LEASES * STEPS)
             return false;
         steps[found++] = event;
     }
-    return found == STEPS;
+    return found == LEASES * STEPS;
 }
 
 /* A TVAL is a signed number of 32 bits. */
 static int64_t ticks_of(const struct event *taken) { return (int32_t)taken->second; }
 
-/* What TVAL read is what was left. The last reading is the guest's own word too, right after it. */
-static bool readings_are_right(uint64_t deadline, const struct event *interrupted) {
-    if (interrupted->second != (interrupted - 1)->second)
-        return false;
-    for (const struct event *event = first_event(); event < past_last_event(); event++) {
-        if (is_access(event, CNTV_TVAL_EL0, true) && event->second != deadline - event->count)
-            return false;
+/* What TVAL reads is what is left, and CNTVCT is the virtual count. The last two are the guest's own word too. */
+static bool readings_are_right(const struct event *const steps[STEPS], uint64_t deadline, uint64_t cntvoff) {
+    const struct event *noted = steps[INTERRUPTED];
+    bool right = noted->first == (noted - 2)->second && noted->second == (noted - 1)->second;
+    for (const struct event *event = steps[TAKEN]; event < steps[GIVEN_BACK]; event++) {
+        if (is_access(event, CNTV_TVAL_EL0, true))
+            right &= event->second == deadline - event->count;
+        if (is_access(event, CNTVCT_EL0, true))
+            right &= event->second == event->count - cntvoff;
     }
-    return true;
+    return right;
 }
 
 /* Every attempt, in the order of the list, and Undefined came of each. */
@@ -101,20 +103,22 @@ static bool lease_is_right(const struct event *const steps[STEPS], uint64_t cntv
     say(right ? "\nthe interrupt came at or after the deadline, and never before\n"
               : "\nthe interrupt came too EARLY\n");
 
-    bool readings = readings_are_right(deadline, steps[INTERRUPTED]);
-    say(readings ? "" : "TVAL did NOT read what was left\n");
+    bool readings = readings_are_right(steps, deadline, cntvoff);
+    say(readings ? "" : "the guest did NOT read the virtual count, or what was left\n");
     return right && readings;
 }
 
 bool went_as_expected(const struct guest *guest) {
-    const struct event *steps[STEPS];
+    const struct event *steps[LEASES * STEPS];
     say("\n");
     if (!find_steps(steps)) {
-        say("the lease did NOT go its way\n");
+        say("the leases did NOT go their way\n");
         return false;
     }
-    bool lease = lease_is_right(steps, guest->timers.cntvoff);
-    bool attempts = attempts_failed(steps[WENT_DOWN]);
-    say(lease && attempts ? "all as expected\n" : "NOT as expected\n");
-    return lease && attempts;
+    bool leases = true;
+    for (size_t i = 0; i < LEASES; i++)
+        leases &= lease_is_right(steps + i * STEPS, guest->timers.cntvoff);
+    bool attempts = attempts_failed(steps[LEASES * STEPS - 1]);
+    say(leases && attempts ? "all as expected\n" : "NOT as expected\n");
+    return leases && attempts;
 }

@@ -16,8 +16,12 @@
 
 /* What the guest notes. */
 #define NOTE_INTERRUPTED 0 /* its CNTVCT, its TVAL */
-#define NOTE_TRIED 1 /* which of the attempts, and the syndrome of what came of it */
-#define NOTE_FAULTED 2 /* an exception that it did not ask for: its address and syndrome */
+#define NOTE_LOST_REGISTERS 1 /* they do not hold what they held when it began to wait */
+#define NOTE_TRIED 2 /* which of the attempts, and the syndrome of what came of it */
+#define NOTE_FAULTED 3 /* an exception that it did not ask for: its address and syndrome */
+
+/* How many leases it takes: more than one, as a second needs what the first has used. */
+#define LEASES 2
 
 #define NOTHING_CAME 0xFFFFFFFFFFFFFFFF /* for a syndrome: the attempt got through */
 

@@ -13,6 +13,9 @@ static volatile bool interrupted;
 static volatile bool trying;
 static volatile uint64_t syndrome;
 
+/* start.S: waits until it is true, and tells whether no register has changed */
+bool wait_with_known_registers(const volatile bool *over);
+
 static void note(uint64_t what, uint64_t first, uint64_t second) {
     register uint64_t x0 __asm__("x0") = what;
     register uint64_t x1 __asm__("x1") = first;
@@ -52,12 +55,15 @@ static void read_what_is_left(void) {
 
 /* The waiting has no trap in it: only an interrupt can end it. */
 static void hold_lease(uint64_t ticks) {
+    interrupted = false;
     write_register(CNTV_TVAL_EL0, ticks);
     write_register(CNTV_CTL_EL0, ENABLE);
     for (int i = 0; i < READINGS; i++)
         read_what_is_left();
-    while (!interrupted)
-        ;
+    if (!wait_with_known_registers(&interrupted)) {
+        note(NOTE_LOST_REGISTERS, 0, 0);
+        end();
+    }
 }
 
 /* Time for an interrupt that should not come: the line is down. */
@@ -79,8 +85,10 @@ static void try_what_it_may_not_touch(void) {
 
 void guest(uint64_t ticks) {
     __asm__ volatile("msr daifclr, #2" ::: "memory");
-    hold_lease(ticks);
-    linger();
+    for (int i = 0; i < LEASES; i++) {
+        hold_lease(ticks);
+        linger();
+    }
     try_what_it_may_not_touch();
     end();
 }

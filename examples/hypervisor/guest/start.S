@@ -54,3 +54,30 @@ back:
     ldp x2, x3, [sp, #16]
     ldp x0, x1, [sp], #160
     eret
+
+/* Every register but x0 and x1 holds its own number until what x0 points to is not 0. */
+    .global wait_with_known_registers
+wait_with_known_registers:
+    stp x29, x30, [sp, #-96]!
+    stp x19, x20, [sp, #16]
+    stp x21, x22, [sp, #32]
+    stp x23, x24, [sp, #48]
+    stp x25, x26, [sp, #64]
+    stp x27, x28, [sp, #80]
+    .irp n, 2, 3, 4, 5, 6, 7, 8, 9, 10, 11, 12, 13, 14, 15, 16, 17, 18, 19, 20, 21, 22, 23, 24, 25, 26, 27, 28, 29, 30
+    mov x\n, #\n
+    .endr
+1:  ldrb w1, [x0]
+    cbz w1, 1b
+    mov x0, #1
+    .irp n, 2, 3, 4, 5, 6, 7, 8, 9, 10, 11, 12, 13, 14, 15, 16, 17, 18, 19, 20, 21, 22, 23, 24, 25, 26, 27, 28, 29, 30
+    cmp x\n, #\n
+    csel x0, x0, xzr, eq
+    .endr
+    ldp x27, x28, [sp, #80]
+    ldp x25, x26, [sp, #64]
+    ldp x23, x24, [sp, #48]
+    ldp x21, x22, [sp, #32]
+    ldp x19, x20, [sp, #16]
+    ldp x29, x30, [sp], #96
+    ret
