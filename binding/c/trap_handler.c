@@ -51,6 +51,7 @@ static enum todo handle(struct guest *guest, uint32_t iss, uint8_t level, uint64
     uint32_t rt = iss >> 5 & 31;
     bool mrs = iss & 1;
     uint64_t operand = rt == XZR ? 0 : guest->x[rt];
+    /* Where the guest runs on a core, its CNTKCTL_EL1 goes into the state here: it writes that without a trap. */
     struct elsterkabel_access access = {elsterkabel_word_of(iss), level, operand, count};
     struct elsterkabel_answer answer;
     elsterkabel_access_in(&guest->timers, &access, &answer);

@@ -75,6 +75,8 @@ impl Guest {
 
     fn handle(&mut self, iss: u32, level: u8, count: u64) -> Todo {
         let (mrs, rt) = (iss & 1 == 1, (iss >> 5 & 31) as usize);
+        // Where the guest runs on a core, its CNTKCTL_EL1 goes into the state here: it writes that
+        // without a trap.
         let answer = self.timers.access(Access {
             word: word_of(iss),
             level,
