@@ -1,10 +1,13 @@
 //! Whether a journal is written as text or in bytes.
 
+use crate::text::LINE_ENDS;
+
 /// A text is UTF-8 with no control character but tabs and the ends of lines. A record in bytes has
 /// three zeros behind its level, or else is refused with 6: no journal that is served anything can
 /// be taken for a text. Nothing at all is a journal in bytes, without a record.
 pub fn is_text(journal: &[u8]) -> bool {
-    let plain = |letter: char| !letter.is_control() || matches!(letter, '\t' | '\n' | '\r');
+    let is_blank = |letter: char| letter == '\t' || LINE_ENDS.contains(&letter);
+    let plain = |letter: char| !letter.is_control() || is_blank(letter);
     let is_plain = |text: &str| text.chars().all(plain);
     !journal.is_empty() && std::str::from_utf8(journal).is_ok_and(is_plain)
 }

@@ -17,6 +17,7 @@ use crate::register::Register;
 
 use super::fault::{Fault, Parsed};
 use super::line::Line;
+use super::lines::lines;
 use super::nearest::nearest;
 use super::token::comment;
 
@@ -30,7 +31,7 @@ pub struct Entry<'a> {
 /// The records that a text describes.
 pub fn entries(text: &str) -> Result<Vec<Entry<'_>>, Fault> {
     let mut entries = Vec::new();
-    for (index, line) in text.lines().enumerate() {
+    for (index, line) in lines(text).enumerate() {
         let record = record_of(line).map_err(|fault| fault.at(index))?;
         let comment = comment(line);
         entries.extend(record.map(|record| Entry { record, comment }));
@@ -231,6 +232,23 @@ mod tests {
         let text = "# a title\n\n  \nEL0 MRS X0, CNTVCT_EL0 @ 1 # at the end\n";
         assert_eq!(entries(text).map(|records| records.len()), Ok(1));
         assert_eq!(pack(""), Ok(vec![]));
+    }
+
+    #[test]
+    fn what_stands_behind_any_end_of_a_line_is_packed() {
+        let record = pack("WORD 0 EL0 @ 1").expect("a record");
+        for end in ["\n", "\r", "\r\n"] {
+            let text = format!("# a title{end}WORD 0 EL0 @ 1{end}");
+            assert_eq!(pack(&text).as_ref(), Ok(&record), "{end:?}");
+            let fault = fault(&format!("# a title{end}WORD{end}"));
+            assert_eq!(fault, (2, 5), "{end:?}");
+        }
+    }
+
+    #[test]
+    fn a_mark_before_the_text_is_no_fault() {
+        assert_eq!(one("\u{FEFF}WORD 0 EL0 @ 1").count, 1);
+        assert_eq!(fault("\u{FEFF}EL4"), (1, 1));
     }
 
     #[test]

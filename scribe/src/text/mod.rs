@@ -3,6 +3,7 @@
 mod fault;
 mod journal;
 mod line;
+mod lines;
 mod nearest;
 mod number;
 mod state;
@@ -10,5 +11,6 @@ mod token;
 
 pub use fault::Fault;
 pub use journal::{entries, journal_of, pack, Entry};
+pub(crate) use lines::LINE_ENDS;
 pub use number::number_of;
 pub use state::state_of;

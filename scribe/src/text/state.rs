@@ -18,6 +18,7 @@ use crate::state::State;
 
 use super::fault::{Fault, FaultInLine, Parsed};
 use super::line::Line;
+use super::lines::lines;
 use super::nearest::nearest;
 
 /// A line that begins with a register, up to its `=`.
@@ -31,7 +32,7 @@ struct Row<'a> {
 pub fn state_of(text: &str) -> Result<State, Fault> {
     let mut start = State::bench();
     let mut rows = Vec::new();
-    for (index, line) in text.lines().enumerate() {
+    for (index, line) in lines(text).enumerate() {
         let mut line = Line::of(line);
         if line.is_over() {
             continue;
@@ -175,6 +176,7 @@ mod tests {
     fn what_is_left_out_is_the_start_of_the_bench() {
         assert_eq!(state(""), State::bench());
         assert_eq!(state("# nothing\n\n"), State::bench());
+        assert_eq!(state("\u{FEFF}# nothing\rCNTVOFF = 5\r").cntvoff, 5);
         let ecv = State {
             ecv: true,
             ..State::bench()
