@@ -18,7 +18,7 @@ use crate::register::Register;
 use super::fault::{Fault, Parsed};
 use super::line::Line;
 use super::lines::lines;
-use super::nearest::nearest;
+use super::nearest::told_nearest;
 use super::token::comment;
 
 /// A record of a text, with the comment that stands behind it in its line.
@@ -146,9 +146,7 @@ fn register(line: &mut Line) -> Parsed<Register> {
     let token = line.next(wanted)?;
     let unknown = || {
         let names = Register::names();
-        token
-            .fault(wanted)
-            .with_nearest(&nearest(token.text, &names))
+        token.fault(wanted).with(&told_nearest(token.text, &names))
     };
     Register::named(token.text).ok_or_else(unknown)
 }
@@ -294,6 +292,26 @@ mod tests {
             fault.to_string(),
             "1:13: expected the name of a timer register, found `CNTX_EL0`; \
              nearest: CNTPCT_EL0, CNTVCT_EL0"
+        );
+    }
+
+    #[test]
+    fn what_was_found_is_cut_where_it_is_long_and_shown_where_it_cannot_be_seen() {
+        let found = |text: &str| {
+            let said = pack(text).expect_err(text).to_string();
+            let (_, found) = said.split_once("found ").expect("what was found");
+            found.to_string()
+        };
+        assert_eq!(found("EL4"), "`EL4`");
+        assert_eq!(
+            found("\u{1B}[2J\u{7F}\u{200B}"),
+            r"`\u{1b}[2J\u{7f}\u{200b}`"
+        );
+        assert_eq!(found("\"it's\""), "`\"it's\"`");
+        assert_eq!(found(&"a".repeat(40)), format!("`{}`", "a".repeat(40)));
+        assert_eq!(
+            found(&"\u{e4}".repeat(41)),
+            format!("`{}..`", "\u{e4}".repeat(40))
         );
     }
 }

@@ -6,6 +6,7 @@ mod line;
 mod lines;
 mod nearest;
 mod number;
+mod quoted;
 mod state;
 mod token;
 
@@ -13,4 +14,5 @@ pub use fault::Fault;
 pub use journal::{entries, journal_of, pack, Entry};
 pub(crate) use lines::LINE_ENDS;
 pub use number::number_of;
+pub use quoted::quoted;
 pub use state::state_of;
