@@ -33,8 +33,12 @@ pub fn state_of(text: &str) -> Result<State, Fault> {
     let mut said = Said::default();
     let mut faults = Vec::new();
     for (index, line) in lines(text).enumerate() {
-        let taken = said.take(index, Line::of(line));
-        faults.extend(taken.err().map(|fault| fault.at(index)));
+        let mut line = Line::of(line);
+        // To what stands before the first fault nothing behind it matters but E2H.
+        if faults.is_empty() || line.next_is("HCR_EL2") {
+            let taken = said.take(index, line);
+            faults.extend(taken.err().map(|fault| fault.at(index)));
+        }
     }
     let mut state = match said.all_zero {
         true => State::default(),
