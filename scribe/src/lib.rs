@@ -28,5 +28,5 @@ pub use image::{ImageError, IMAGE_BYTES};
 pub use kind::is_text;
 pub use record::{Record, RECORD_BYTES, RECORD_LIMIT};
 pub use state::{State, Timer, TIMERS};
-pub use text::{entries, journal_of, number_of, pack, state_of, Entry, Fault};
+pub use text::{entries, journal_of, number_of, pack, quoted, state_of, Entry, Fault};
 pub use written::Lines;

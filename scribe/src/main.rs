@@ -5,67 +5,68 @@ mod show_files;
 mod timeline_files;
 
 use std::env;
+use std::ffi::OsString;
+use std::os::unix::ffi::OsStrExt;
 use std::process::ExitCode;
 
 use scribe::RECORD_LIMIT;
 
-use files::{entries, read, read_text, state, write_out, Failure};
+use files::{entries, read, read_text, say, state, write_out, Argument, Failure};
 use show_files::{end, show_files};
 use timeline_files::timeline;
 
 fn main() -> ExitCode {
-    let arguments: Vec<String> = env::args().skip(1).collect();
-    let arguments: Vec<&str> = arguments.iter().map(String::as_str).collect();
+    let arguments: Vec<OsString> = env::args_os().skip(1).collect();
+    let arguments: Vec<Argument> = arguments.iter().map(|given| given.as_bytes()).collect();
     match output_of(&arguments).and_then(|output| write_out(&output)) {
         Ok(()) => ExitCode::SUCCESS,
         Err(Failure::Input(message)) => {
-            eprintln!("{message}");
+            say(&message);
             ExitCode::from(1)
         }
         Err(Failure::Usage(message)) => {
-            eprintln!("scribe: {message}; see scribe --help");
+            say(&format!("scribe: {message}; see scribe --help"));
             ExitCode::from(2)
         }
     }
 }
 
-fn output_of(arguments: &[&str]) -> Result<Vec<u8>, Failure> {
+fn output_of(arguments: &[Argument]) -> Result<Vec<u8>, Failure> {
     match arguments {
-        ["--help" | "-h"] => Ok(include_bytes!("help.txt").to_vec()),
-        ["pack"] => pack("-"),
-        ["pack", file] if !file.starts_with("--") => pack(file),
-        ["pack-state"] => pack_state("-"),
-        ["pack-state", file] if !file.starts_with("--") => pack_state(file),
-        ["kind"] => kind("-"),
-        ["kind", file] if !file.starts_with("--") => kind(file),
-        ["end", state, journal, written] => end(state, journal, written),
-        ["timeline", options @ ..] => timeline(options),
-        ["show"] => Err(Failure::Usage("nothing to show".to_string())),
-        ["show", options @ ..] => show_files(options),
+        [b"--help" | b"-h"] => Ok(include_bytes!("help.txt").to_vec()),
+        [b"pack"] => pack(b"-"),
+        [b"pack", file] if !file.starts_with(b"--") => pack(file),
+        [b"pack-state"] => pack_state(b"-"),
+        [b"pack-state", file] if !file.starts_with(b"--") => pack_state(file),
+        [b"kind"] => kind(b"-"),
+        [b"kind", file] if !file.starts_with(b"--") => kind(file),
+        [b"end", state, journal, written] => end(state, journal, written),
+        [b"timeline", options @ ..] => timeline(options),
+        [b"show"] => Err(Failure::Usage("nothing to show".to_string())),
+        [b"show", options @ ..] => show_files(options),
         [] => Err(Failure::Usage("a command is missing".to_string())),
-        _ => {
-            let asked = arguments.join(" ");
-            Err(Failure::Usage(format!("cannot make sense of `{asked}`")))
-        }
+        [command, options @ ..] => Err(Failure::no_sense_in(command, options)),
     }
 }
 
-fn pack(file: &str) -> Result<Vec<u8>, Failure> {
+fn pack(file: Argument) -> Result<Vec<u8>, Failure> {
     let text = read_text(file)?;
     let entries = entries(file, &text)?;
     let records = entries.len();
     if records > RECORD_LIMIT {
-        eprintln!("scribe: note: {records} records; a run refuses over {RECORD_LIMIT} with 7");
+        say(&format!(
+            "scribe: note: {records} records; a run refuses over {RECORD_LIMIT} with 7"
+        ));
     }
     Ok(scribe::journal_of(&entries))
 }
 
-fn pack_state(file: &str) -> Result<Vec<u8>, Failure> {
+fn pack_state(file: Argument) -> Result<Vec<u8>, Failure> {
     let text = read_text(file)?;
     Ok(state(file, &text)?.to_image().to_vec())
 }
 
-fn kind(file: &str) -> Result<Vec<u8>, Failure> {
+fn kind(file: Argument) -> Result<Vec<u8>, Failure> {
     let kind = if scribe::is_text(&read(file)?) {
         "text\n"
     } else {

@@ -2,6 +2,13 @@
 
 mod common;
 
+use std::ffi::OsStr;
+use std::fs;
+use std::io::Write;
+use std::os::unix::ffi::OsStrExt;
+use std::path::Path;
+use std::process::{Command, Stdio};
+
 use common::{done, failed, scribe, Scratch};
 use scribe::{Answer, Record, RECORD_BYTES, RECORD_LIMIT};
 
@@ -150,6 +157,50 @@ fn a_journal_is_told_to_be_text_or_bytes() {
 }
 
 #[test]
+fn nothing_at_all_is_a_text() {
+    assert_eq!(done(scribe(&["kind"], b"")), b"text\n");
+}
+
+#[test]
+fn a_name_may_be_any_bytes() {
+    let odd = OsStr::from_bytes(b"odd-\xFF.txt");
+    let file = Path::new(env!("CARGO_TARGET_TMPDIR")).join(odd);
+    fs::write(&file, "WORD 0 EL0 @ 1").expect("a file of that name");
+    let packed = scribe(&[OsStr::new("pack"), file.as_os_str()], b"");
+    fs::remove_file(&file).expect("a file of that name");
+    assert_eq!(done(packed).len(), RECORD_BYTES);
+    let said = failed(scribe(&[OsStr::new("pack"), odd], b""), 1);
+    assert!(said.contains("No such file"), "{said}");
+    let said = failed(scribe(&[odd], b""), 2);
+    assert_eq!(
+        said,
+        "scribe: cannot make sense of `odd-\u{FFFD}.txt`; see scribe --help\n"
+    );
+}
+
+#[test]
+fn a_message_that_is_not_taken_changes_no_status() {
+    let mute = |arguments: &[&str], input: &[u8]| {
+        let full = fs::OpenOptions::new().write(true).open("/dev/full");
+        let mut child = Command::new(env!("CARGO_BIN_EXE_scribe"))
+            .args(arguments)
+            .stdin(Stdio::piped())
+            .stdout(Stdio::null())
+            .stderr(full.expect("a device"))
+            .spawn()
+            .expect("scribe runs");
+        let mut stdin = child.stdin.take().expect("a pipe");
+        stdin.write_all(input).expect("a pipe");
+        drop(stdin);
+        child.wait().expect("scribe ends").code()
+    };
+    let long = "WORD 0 EL0 @ 1\n".repeat(RECORD_LIMIT + 1);
+    assert_eq!(mute(&["pack"], long.as_bytes()), Some(0));
+    assert_eq!(mute(&["pack"], b"EL4"), Some(1));
+    assert_eq!(mute(&["unpack"], b""), Some(2));
+}
+
+#[test]
 fn a_refused_run_has_no_answers() {
     let shown = done(scribe(
         &["show", "--answers", "-", "--journal", "/dev/null"],
@@ -213,6 +264,8 @@ fn bad_usage_has_its_own_exit_code() {
         &["show", "journal"],
         &["show", "--text", "-", "--journal", "/dev/null"],
         &["show", "--state", "/dev/null", "--state", "/dev/null"],
+        &["show", "--journal", "-", "--state", "-"],
+        &["show", "--text", "-", "--answers", "-"],
         &["pack", "--fast"],
         &["pack-state", "--fast"],
         &["pack-state", "a", "b"],
@@ -222,6 +275,8 @@ fn bad_usage_has_its_own_exit_code() {
         let said = failed(scribe(arguments, b""), 2);
         assert!(said.contains("--help"), "{said}");
     }
+    let said = failed(scribe(&["\u{1B}[2J"], b""), 2);
+    assert!(said.contains(r"`\u{1b}[2J`"), "{said}");
 }
 
 #[test]

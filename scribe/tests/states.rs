@@ -32,6 +32,22 @@ fn a_state_packed_and_shown_is_the_same_text() {
 }
 
 #[test]
+fn a_journal_and_a_state_are_two_paragraphs() {
+    let image = Scratch::new("two.image", &State::bench().to_image());
+    let journal = scribe::pack("WORD 0 EL0 @ 1").expect("a record");
+    let both = |journal: &[u8]| {
+        let asked = ["show", "--journal", "-", "--state", image.path()];
+        String::from_utf8(done(scribe(&asked, journal))).expect("text")
+    };
+    let state = shown(&State::bench().to_image());
+    assert_eq!(
+        both(&journal),
+        format!("WORD 0x00000000 EL0 = 0 @ 1\n\n{state}")
+    );
+    assert_eq!(both(b""), state);
+}
+
+#[test]
 fn a_text_may_say_little_and_stand_in_a_file() {
     let file = Scratch::new("little.state", b"CNTVOFF = 5\n");
     let image = done(scribe(&["pack-state", file.path()], b""));

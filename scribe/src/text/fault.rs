@@ -33,9 +33,9 @@ impl FaultInLine {
         }
     }
 
-    /// The fault with the names that were perhaps meant.
-    pub(super) fn with_nearest(mut self, names: &[&str]) -> FaultInLine {
-        self.message += &format!("; nearest: {}", names.join(", "));
+    /// The fault with more words behind it.
+    pub(super) fn with(mut self, words: &str) -> FaultInLine {
+        self.message += words;
         self
     }
 

@@ -17,7 +17,8 @@ use crate::register::Register;
 
 use super::fault::{Fault, Parsed};
 use super::line::Line;
-use super::nearest::nearest;
+use super::lines::lines;
+use super::nearest::told_nearest;
 use super::token::comment;
 
 /// A record of a text, with the comment that stands behind it in its line.
@@ -30,7 +31,7 @@ pub struct Entry<'a> {
 /// The records that a text describes.
 pub fn entries(text: &str) -> Result<Vec<Entry<'_>>, Fault> {
     let mut entries = Vec::new();
-    for (index, line) in text.lines().enumerate() {
+    for (index, line) in lines(text).enumerate() {
         let record = record_of(line).map_err(|fault| fault.at(index))?;
         let comment = comment(line);
         entries.extend(record.map(|record| Entry { record, comment }));
@@ -145,9 +146,7 @@ fn register(line: &mut Line) -> Parsed<Register> {
     let token = line.next(wanted)?;
     let unknown = || {
         let names = Register::names();
-        token
-            .fault(wanted)
-            .with_nearest(&nearest(token.text, &names))
+        token.fault(wanted).with(&told_nearest(token.text, &names))
     };
     Register::named(token.text).ok_or_else(unknown)
 }
@@ -234,6 +233,23 @@ mod tests {
     }
 
     #[test]
+    fn what_stands_behind_any_end_of_a_line_is_packed() {
+        let record = pack("WORD 0 EL0 @ 1").expect("a record");
+        for end in ["\n", "\r", "\r\n"] {
+            let text = format!("# a title{end}WORD 0 EL0 @ 1{end}");
+            assert_eq!(pack(&text).as_ref(), Ok(&record), "{end:?}");
+            let fault = fault(&format!("# a title{end}WORD{end}"));
+            assert_eq!(fault, (2, 5), "{end:?}");
+        }
+    }
+
+    #[test]
+    fn a_mark_before_the_text_is_no_fault() {
+        assert_eq!(one("\u{FEFF}WORD 0 EL0 @ 1").count, 1);
+        assert_eq!(fault("\u{FEFF}EL4"), (1, 1));
+    }
+
+    #[test]
     fn a_comment_stays_with_the_record_of_its_line() {
         let text = "# a title\nWORD 0 EL0 @ 1 # first\nWORD 0 EL0 @ 2\nWORD 0 EL0 @ 3 # last";
         let kept = entries(text).expect("three records");
@@ -276,6 +292,26 @@ mod tests {
             fault.to_string(),
             "1:13: expected the name of a timer register, found `CNTX_EL0`; \
              nearest: CNTPCT_EL0, CNTVCT_EL0"
+        );
+    }
+
+    #[test]
+    fn what_was_found_is_cut_where_it_is_long_and_shown_where_it_cannot_be_seen() {
+        let found = |text: &str| {
+            let said = pack(text).expect_err(text).to_string();
+            let (_, found) = said.split_once("found ").expect("what was found");
+            found.to_string()
+        };
+        assert_eq!(found("EL4"), "`EL4`");
+        assert_eq!(
+            found("\u{1B}[2J\u{7F}\u{200B}"),
+            r"`\u{1b}[2J\u{7f}\u{200b}`"
+        );
+        assert_eq!(found("\"it's\""), "`\"it's\"`");
+        assert_eq!(found(&"a".repeat(40)), format!("`{}`", "a".repeat(40)));
+        assert_eq!(
+            found(&"\u{e4}".repeat(41)),
+            format!("`{}..`", "\u{e4}".repeat(40))
         );
     }
 }

@@ -5,6 +5,7 @@ use std::vec::IntoIter;
 
 use super::fault::{FaultInLine, Parsed};
 use super::number::{number_of, signed_number_of};
+use super::quoted::quoted;
 use super::token::{tokens, Token};
 
 /// What is left of a line. Each part of it is asked for in the words that a fault tells it with.
@@ -19,7 +20,7 @@ impl Token<'_> {
     }
 
     pub(super) fn fault(&self, wanted: &str) -> FaultInLine {
-        FaultInLine::expected(wanted, &format!("`{}`", self.text), self.column)
+        FaultInLine::expected(wanted, &quoted(self.text), self.column)
     }
 }
 

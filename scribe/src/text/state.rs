@@ -16,9 +16,10 @@ use crate::control::{bits_of, Bit};
 use crate::fields::{arm_name, registers, Field};
 use crate::state::State;
 
-use super::fault::{Fault, FaultInLine, Parsed};
+use super::fault::{Fault, Parsed};
 use super::line::Line;
-use super::nearest::nearest;
+use super::lines::lines;
+use super::nearest::told_nearest;
 
 /// A line that begins with a register, up to its `=`.
 struct Row<'a> {
@@ -29,41 +30,62 @@ struct Row<'a> {
 
 /// The state that a text describes.
 pub fn state_of(text: &str) -> Result<State, Fault> {
-    let mut start = State::bench();
-    let mut rows = Vec::new();
-    for (index, line) in text.lines().enumerate() {
+    let mut said = Said::default();
+    let mut faults = Vec::new();
+    for (index, line) in lines(text).enumerate() {
         let mut line = Line::of(line);
-        if line.is_over() {
-            continue;
-        }
-        let told = |fault: FaultInLine| fault.at(index);
-        if rows.is_empty() && line.next_is("ALL") {
-            all_zero(line).map_err(told)?;
-            start = State::default();
-        } else {
-            rows.push(row(index, line, &rows).map_err(told)?);
+        // To what stands before the first fault nothing behind it matters but E2H.
+        if faults.is_empty() || line.next_is("HCR_EL2") {
+            let taken = said.take(index, line);
+            faults.extend(taken.err().map(|fault| fault.at(index)));
         }
     }
-    filled(start, rows)
+    let mut state = match said.all_zero {
+        true => State::default(),
+        false => State::bench(),
+    };
+    faults.extend(fill_all(&mut state, said.rows));
+    let first = faults
+        .into_iter()
+        .min_by_key(|fault| (fault.line, fault.column));
+    first.map_or(Ok(state), Err)
 }
 
-fn all_zero(mut line: Line) -> Parsed<()> {
-    line.sign("ALL")?;
-    line.sign("ZERO")?;
-    line.end()
+/// What the lines say so far, but for what stands behind each `=`.
+#[derive(Default)]
+struct Said<'a> {
+    all_zero: bool,
+    rows: Vec<Row<'a>>,
+}
+
+impl<'a> Said<'a> {
+    fn take(&mut self, index: usize, mut line: Line<'a>) -> Parsed<()> {
+        if line.next_is("ALL") {
+            self.take_all_zero(line)?;
+        } else if !line.is_over() {
+            self.rows.push(row(index, line, &self.rows)?);
+        }
+        Ok(())
+    }
+
+    fn take_all_zero(&mut self, mut line: Line) -> Parsed<()> {
+        let token = line.next("`ALL`")?;
+        if self.all_zero || !self.rows.is_empty() {
+            return Err(token.fault("`ALL ZERO` only once, before the first register"));
+        }
+        line.sign("ZERO")?;
+        self.all_zero = true;
+        line.end()
+    }
 }
 
 fn row<'a>(index: usize, mut line: Line<'a>, before: &[Row]) -> Parsed<Row<'a>> {
     let wanted = "a register of a state";
     let token = line.next(wanted)?;
-    if token.is("ALL") {
-        return Err(token.fault("`ALL ZERO` before the first register only"));
-    }
     let names = registers();
     let is_it = |name: &&&'static str| token.is(name) || token.is(arm_name(name));
     let Some(&register) = names.iter().find(is_it) else {
-        let nearest = nearest(token.text, &names);
-        return Err(token.fault(wanted).with_nearest(&nearest));
+        return Err(token.fault(wanted).with(&perhaps(token.text, &names)));
     };
     if let Some(first) = before.iter().find(|row| row.register == register) {
         let line = first.index + 1;
@@ -77,37 +99,70 @@ fn row<'a>(index: usize, mut line: Line<'a>, before: &[Row]) -> Parsed<Row<'a>> 
     })
 }
 
-/// The state with what the rows say, or the fault that stands first in the text.
-fn filled(mut state: State, mut rows: Vec<Row>) -> Result<State, Fault> {
+/// What was perhaps meant by a word that is no register.
+fn perhaps(word: &str, names: &[&'static str]) -> String {
+    let has_it = |&register: &&'static str| {
+        let mut parts = parts_of(register);
+        let part = parts.find(|part| part.eq_ignore_ascii_case(word))?;
+        Some((register, part))
+    };
+    let (having, parts): (Vec<&str>, Vec<&str>) = names.iter().filter_map(has_it).unzip();
+    match parts.as_slice() {
+        [] => told_nearest(word, names),
+        [part] => format!("; {} has {part}", having[0]),
+        [part, ..] => format!("; {} have {part}", having.join(", ")),
+    }
+}
+
+/// The names of a register's fields, and of its bits by either layout.
+fn parts_of(register: &str) -> impl Iterator<Item = &'static str> + '_ {
+    let fields = State::default().fields().into_iter();
+    let fields = fields.filter(move |(name, _)| name.register == register);
+    let bits = [false, true].into_iter();
+    let bits = bits.filter_map(move |e2h| bits_of(register, e2h)).flatten();
+    let parts = fields.filter_map(|(name, _)| name.part);
+    parts.chain(bits.map(|(name, _)| *name))
+}
+
+/// Fills in what the rows say, and gives their faults.
+fn fill_all(state: &mut State, mut rows: Vec<Row>) -> Vec<Fault> {
     // E2H picks the names of CNTHCTL's bits, so HCR_EL2 goes before it wherever it stands.
     let order = registers();
     rows.sort_by_key(|row| order.iter().position(|name| *name == row.register));
     let faults = rows.into_iter().filter_map(|row| {
-        let filled = fill(&mut state, row.register, row.rest);
+        let filled = fill(state, row.register, row.rest);
         filled.err().map(|fault| fault.at(row.index))
     });
-    match faults.min_by_key(|fault| fault.line) {
-        Some(fault) => Err(fault),
-        None => Ok(state),
-    }
+    faults.collect()
 }
 
 fn fill(state: &mut State, register: &'static str, mut line: Line) -> Parsed<()> {
-    let bits = bits_of(register, state.e2h);
+    let e2h = state.e2h;
+    let bits = bits_of(register, e2h);
     let mut fields = state.fields_mut();
     fields.retain(|field| field.name.register == register);
     match (bits, &mut fields[..]) {
-        (Some(bits), [word]) if !line.next_is_number() => bits_by_name(&mut line, word, bits)?,
+        (Some(bits), [word]) if !line.next_is_number() => {
+            let what = format!("a number, or a bit of {register}{}", naming(register, e2h));
+            bits_by_name(&mut line, &what, word, bits)?
+        }
         (_, [whole]) if whole.name.part.is_none() => whole.set(number(&mut line, whole)?),
         (_, parts) => parts_by_name(&mut line, parts)?,
     }
     line.end()
 }
 
-fn bits_by_name(line: &mut Line, word: &mut Field, bits: &[Bit]) -> Parsed<()> {
+/// What is to be said of the names of a register's bits.
+fn naming(register: &str, e2h: bool) -> String {
+    match bits_of(register, e2h) == bits_of(register, !e2h) {
+        true => String::new(),
+        false => format!(" as E2H {} names them", u8::from(e2h)),
+    }
+}
+
+fn bits_by_name(line: &mut Line, what: &str, word: &mut Field, bits: &[Bit]) -> Parsed<()> {
     let names: Vec<&str> = bits.iter().map(|(name, _)| *name).collect();
-    let what = format!("a number, or a bit of {}", word.name);
-    each_named(line, &what, &names, |line, chosen| {
+    each_named(line, what, &names, |line, chosen| {
         let (name, place) = bits[chosen];
         let others = word.value() & !(1 << place);
         word.set(others | line.bit(name)? << place);
@@ -175,6 +230,7 @@ mod tests {
     fn what_is_left_out_is_the_start_of_the_bench() {
         assert_eq!(state(""), State::bench());
         assert_eq!(state("# nothing\n\n"), State::bench());
+        assert_eq!(state("\u{FEFF}# nothing\rCNTVOFF = 5\r").cntvoff, 5);
         let ecv = State {
             ecv: true,
             ..State::bench()
@@ -220,9 +276,17 @@ mod tests {
         assert_eq!(state(&format!("{text}\nHCR_EL2 = E2H 1")).cnthctl, 1 << 10);
         assert_eq!(
             fault("CNTHCTL = EL1PTEN 1"),
-            "1:11: expected a number, or a bit of CNTHCTL: EL1PCTEN, EL1PCEN, ECV, EL1TVT, EL1TVCT, \
+            "1:11: expected a number, or a bit of CNTHCTL as E2H 0 names them: EL1PCTEN, EL1PCEN, ECV, \
+             EL1TVT, EL1TVCT, \
              found `EL1PTEN`"
         );
+        let said = fault("CNTHCTL = EL1PCEN 1\nHCR_EL2 = E2H 1");
+        assert!(
+            said.contains("a bit of CNTHCTL as E2H 1 names them: EL0PCTEN, "),
+            "{said}"
+        );
+        let said = fault("CNTKCTL = EL1PCEN 1");
+        assert!(said.contains("a bit of CNTKCTL: EL0PCTEN, "), "{said}");
     }
 
     #[test]
@@ -277,7 +341,11 @@ mod tests {
             ("ALL 0", "1:5: expected `ZERO`, found `0`"),
             (
                 "CNTVOFF = 1\nALL ZERO",
-                "2:1: expected `ALL ZERO` before the first register only, found `ALL`",
+                "2:1: expected `ALL ZERO` only once, before the first register, found `ALL`",
+            ),
+            (
+                "ALL ZERO\nALL ZERO",
+                "2:1: expected `ALL ZERO` only once, before the first register, found `ALL`",
             ),
         ] {
             assert_eq!(fault(text), said, "{text}");
@@ -286,7 +354,34 @@ mod tests {
 
     #[test]
     fn of_two_faults_the_first_in_the_text_is_told() {
-        let said = fault("CNTV = CVAL x\nFEATURES = VHE 2");
-        assert!(said.starts_with("1:13: "), "{said}");
+        for (text, place) in [
+            ("CNTV = CVAL x\nFEATURES = VHE 2", "1:13: "),
+            ("CNTV = CVAL x\nFOO = 1", "1:13: "),
+            ("CNTV = CVAL x\nCNTVOFF 1\nALL ZERO", "1:13: "),
+            ("FOO = 1\nCNTV = CVAL x", "1:1: "),
+            ("CNTHCTL = EL1PTEN 1\nFOO = 1\nHCR_EL2 = E2H 1", "2:1: "),
+        ] {
+            let said = fault(text);
+            assert!(said.starts_with(place), "{said}");
+        }
+    }
+
+    #[test]
+    fn what_was_perhaps_meant_is_told() {
+        let told = |name: &str| {
+            let said = fault(&format!("{name} = 1"));
+            let (_, told) = said.split_once(&format!("found `{name}`")).expect(&said);
+            told.to_string()
+        };
+        assert_eq!(told("CNTV_CVAL_EL0"), "; nearest: CNTV");
+        assert_eq!(told("cnthps_ctl_el2"), "; nearest: CNTHPS");
+        assert_eq!(told("CNTVOFF_EL1"), "; nearest: CNTVOFF");
+        assert_eq!(told("HCR"), "; nearest: HCR_EL2");
+        assert_eq!(told("E2H"), "; HCR_EL2 has E2H");
+        assert_eq!(told("ecv"), "; FEATURES, CNTHCTL have ECV");
+        assert_eq!(told("ecven"), "; SCR_EL3 has ECVEn");
+        assert_eq!(told("EL1PTEN"), "; CNTHCTL has EL1PTEN");
+        assert_eq!(told(";"), "");
+        assert_eq!(told("FOO"), "");
     }
 }

@@ -2,7 +2,7 @@
 
 use crate::written::Lines;
 
-use super::labels::{is_moved, is_up};
+use super::labels::{is_marked, is_up};
 use super::moments::Moment;
 
 pub(super) struct Column {
@@ -22,10 +22,10 @@ impl Column {
         format!("{:width$}", self.name, width = self.width)
     }
 
-    /// The line as a moment turns it, with a mark where that moved its deadline.
+    /// The line as a moment turns it, with a mark where a write changed its timer or the offset.
     pub(super) fn turning(&self, moment: &Moment, before: &Lines) -> String {
         let across = "-".repeat(self.width - 2);
-        let marked = is_moved(moment, self.timer);
+        let marked = is_marked(moment, self.timer);
         let corner = if marked { "*" } else { "." };
         let now = is_up(&moment.seen.lines, self.timer);
         match (is_up(before, self.timer), now) {
@@ -53,6 +53,7 @@ impl Column {
 #[cfg(test)]
 mod tests {
     use super::*;
+    use crate::state::{State, TIMERS};
     use crate::timeline::samples::{start, turn, write};
 
     #[test]
@@ -84,6 +85,25 @@ mod tests {
         assert_eq!(drawn(&raised, &raised), "   *");
         assert_eq!(drawn(&moved, &raised), "*--'");
         assert_eq!(Column::of(0, "CNTP").turning(&moved, &None), "|   ");
+    }
+
+    #[test]
+    fn a_new_offset_is_marked_on_the_timer_whose_count_it_shifts() {
+        let down = start(1);
+        let drawn = |state: State, timer: usize| {
+            let moved = write(&down, 1, 0, state);
+            Column::of(timer, TIMERS[timer]).turning(&moved, &down.seen.lines)
+        };
+        let marked = |state: State| -> Vec<&str> {
+            let timers = (0..TIMERS.len()).filter(|&timer| drawn(state, timer).contains('*'));
+            timers.map(|timer| TIMERS[timer]).collect()
+        };
+        let mut state = down.seen.state;
+        state.cntvoff += 1;
+        assert_eq!(marked(state), ["CNTV"]);
+        state = down.seen.state;
+        state.cntpoff += 1;
+        assert_eq!(marked(state), ["CNTP"]);
     }
 
     #[test]

@@ -20,7 +20,7 @@ pub(super) fn drawn(moments: &[Moment]) -> Vec<usize> {
 fn is_busy(moment: &Moment, timer: usize) -> bool {
     moment.seen.state.timers[timer].enable
         || is_up(&moment.seen.lines, timer) == Some(true)
-        || is_moved(moment, timer)
+        || is_written(moment, timer)
 }
 
 /// Nothing is known of the lines of a state that cannot be.
@@ -28,9 +28,18 @@ pub(super) fn is_up(lines: &Lines, timer: usize) -> Option<bool> {
     lines.map(|lines| lines[timer])
 }
 
-/// Whether the moment's record changed that timer.
-pub(super) fn is_moved(moment: &Moment, timer: usize) -> bool {
+fn is_written(moment: &Moment, timer: usize) -> bool {
     !moved_of(moment, TIMERS[timer]).is_empty()
+}
+
+/// Whether the moment's record changed that timer, or what shifts its count.
+pub(super) fn is_marked(moment: &Moment, timer: usize) -> bool {
+    let offset = match TIMERS[timer] {
+        "CNTP" => "CNTPOFF",
+        "CNTV" => "CNTVOFF",
+        _ => return is_written(moment, timer),
+    };
+    is_written(moment, timer) || !moved_of(moment, offset).is_empty()
 }
 
 /// Each moment with the lines before it; before the first they are its own.
@@ -173,6 +182,10 @@ mod tests {
         written.timers[5].cval = 7;
         let written = write(&on, 2, 0, written);
         assert_eq!(drawn(&[first, up, on, written]), [0, CNTV, 3, 5]);
+        let first = start(5);
+        let mut shifted = first.seen.state;
+        shifted.cntpoff = 7;
+        assert_eq!(drawn(&[write(&first, 1, 0, shifted)]), [CNTV]);
     }
 
     #[test]

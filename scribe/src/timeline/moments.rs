@@ -21,7 +21,7 @@ pub struct Moment {
     pub count: u64,
     pub cause: Cause,
     pub seen: Seen,
-    /// What the record changed, and with it a deadline.
+    /// What the record changed.
     pub moved: Vec<Change>,
     /// The numbers of the records that it stands for, from 1 on: its own and those after it that
     /// leave all as it is.

@@ -26,9 +26,9 @@ const BETWEEN: usize = 13;
 const OFFSETS: [&str; 2] = ["CNTVOFF", "CNTPOFF"];
 
 const LEGEND: [&str; 3] = [
-    "A column is a moment; they are evenly spaced, not to scale. Timers that are never on, up or written are left out.",
-    "virtual and TVAL are CNTVCT and CNTV_TVAL as a guest reads them at EL1: ? is unknown, - is not to be read.",
-    "High and filled: the line is up. Diamond or new offset: a write moved a deadline. Dashed: the count alone turned a line.",
+    "A column is a moment; they are evenly spaced, not to scale. Timers but CNTV that are never on, up or written are left out.",
+    "virtual and TVAL are CNTVCT and CNTV_TVAL as a guest reads them at EL1: ? is unknown, - cannot be read there.",
+    "High and filled: the line is up. Diamond or new offset: a write changed a timer or its offset. Dashed: the count alone turned a line.",
 ];
 
 /// A moment with the lines before it.
@@ -197,6 +197,7 @@ fn column_width(moments: &[Moment]) -> usize {
 mod tests {
     use super::*;
     use crate::timeline::samples::{start, turn, widest, write};
+    use crate::timeline::track::RISE;
     use crate::timeline::well_formed::fault_in;
 
     fn well_formed(moments: &[Moment]) -> String {
@@ -208,12 +209,13 @@ mod tests {
     /// What stays free between two words.
     const LETTER: usize = 8;
 
+    fn attribute(line: &str, name: &str) -> Option<usize> {
+        let value = line.split_once(&format!(" {name}=\""))?.1;
+        value.split_once('"')?.0.parse().ok()
+    }
+
     /// Where each word that is centred begins and ends, with its height, by the widest font.
     fn centred(file: &str) -> Vec<(usize, usize, usize)> {
-        let attribute = |line: &str, name: &str| {
-            let value = line.split_once(&format!(" {name}=\""))?.1;
-            value.split_once('"')?.0.parse().ok()
-        };
         let class = |line: &str| {
             ["value", "count", "record", "note"]
                 .iter()
@@ -279,6 +281,32 @@ mod tests {
         assert!(told.contains(">Timer lines over a journal of 1 record</title>"));
         assert!(well_formed(&[first]).contains("No line turns."));
         assert!(well_formed(&[]).contains("a journal without a record"));
+    }
+
+    fn height_of(file: &str, words: &str) -> usize {
+        let end = format!(">{words}</text>");
+        let line = file.lines().find(|line| line.ends_with(&end));
+        line.and_then(|line| attribute(line, "y")).expect(words)
+    }
+
+    #[test]
+    fn a_note_stands_close_above_its_line_and_covers_no_part_of_it() {
+        let down = start(5);
+        let up = turn(&down, 5, &[2]);
+        let mut state = down.seen.state;
+        state.timers[2].cval = 77;
+        for (before, now, rise) in [
+            (&down, &down, 0),
+            (&down, &up, RISE),
+            (&up, &up, RISE),
+            (&up, &down, RISE),
+        ] {
+            let mut written = write(before, 1, 0, state);
+            written.seen.lines = now.seen.lines;
+            let file = well_formed(&[before.clone(), written]);
+            let low = height_of(&file, "CNTHP") + RISE / 4;
+            assert_eq!(low - rise - height_of(&file, "CVAL 77"), 9, "{file}");
+        }
     }
 
     #[test]

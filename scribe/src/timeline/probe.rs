@@ -1,5 +1,6 @@
 //! The desk that is the proved program `probe`, started once for each look.
 
+use std::ffi::OsStr;
 use std::io::Write;
 use std::process::{Command, Stdio};
 
@@ -14,15 +15,16 @@ use super::desk::{Desk, Reading, Seen};
 
 /// The command line that runs `probe`.
 pub struct Probe<'a> {
-    pub program: &'a str,
-    pub arguments: &'a [&'a str],
+    pub program: &'a OsStr,
+    pub arguments: Vec<&'a OsStr>,
 }
 
 impl Probe<'_> {
     fn run(&self, input: &[u8]) -> Result<Vec<u8>, String> {
-        let told = |error| format!("{}: {error}", self.program);
+        let program = self.program.display();
+        let told = |error| format!("{program}: {error}");
         let mut child = Command::new(self.program)
-            .args(self.arguments)
+            .args(&self.arguments)
             .stdin(Stdio::piped())
             .stdout(Stdio::piped())
             .spawn()
@@ -34,10 +36,7 @@ impl Probe<'_> {
         let output = child.wait_with_output().map_err(told)?;
         match output.status.success() {
             true => Ok(output.stdout),
-            false => Err(format!(
-                "{} did not end well: {}",
-                self.program, output.status
-            )),
+            false => Err(format!("{program} did not end well: {}", output.status)),
         }
     }
 }

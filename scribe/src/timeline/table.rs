@@ -11,8 +11,13 @@ use super::moments::Moment;
 
 const LEGEND: &str = "
 A row is a moment; time goes down. virtual and TVAL are CNTVCT and CNTV_TVAL as
-a guest reads them at EL1: ? is unknown, - is not to be read. A line is down at
-the left of its column and up at the right. * is where a write moved a deadline.
+a guest reads them at EL1: ? is unknown, - cannot be read there. A line is down
+at the left of its column and up at the right. * is where a write changed a
+timer or its offset.
+";
+
+const UNKNOWN_LINES: &str = "\
+? in a line's column: the state is impossible, and its lines are not known.
 ";
 
 /// The timeline of those moments. No line of it is wider than a terminal.
@@ -25,7 +30,13 @@ pub fn table(moments: &[Moment]) -> String {
         .beside()
         .or_else(|| named_in_full.under())
         .or_else(|| Table::of(moments, |name| name.trim_start_matches("CNT")).under());
-    text.expect("short names fit beside the longest numbers") + LEGEND
+    text.expect("short names fit beside the longest numbers") + &legend(moments)
+}
+
+fn legend(moments: &[Moment]) -> String {
+    let all_known = moments.iter().all(|moment| moment.seen.lines.is_some());
+    let unknown = if all_known { "" } else { UNKNOWN_LINES };
+    LEGEND.to_string() + unknown
 }
 
 struct Row {
@@ -256,6 +267,17 @@ mod tests {
             text.contains("start\n-- the count goes back --\n    5 "),
             "{text}"
         );
+    }
+
+    #[test]
+    fn a_line_that_is_not_known_is_in_the_legend_where_there_is_one() {
+        let words = "? in a line's column: the state is impossible, and its lines are not known.";
+        let mut moments = vec![start(1)];
+        assert!(!table(&moments).contains(words));
+        moments[0].seen.lines = None;
+        let text = table(&moments);
+        assert!(text.ends_with(&format!("{words}\n")), "{text}");
+        assert!(text.lines().all(|line| line.len() <= COLUMNS), "{text}");
     }
 
     #[test]

@@ -1,4 +1,4 @@
-//! The track of one timer in the picture: its line as a wave, and marks where its deadline moved.
+//! The track of one timer in the picture: its line as a wave, and marks where a write changed it.
 
 use crate::state::TIMERS;
 
@@ -8,7 +8,7 @@ use super::picture::Band;
 use super::svg::Svg;
 
 /// How far up a line goes.
-const RISE: usize = 22;
+pub(super) const RISE: usize = 22;
 /// A line of notes above it.
 const NOTE: usize = 13;
 const GAP: usize = 12;
@@ -60,8 +60,14 @@ impl Track {
         };
         let before = is_up(band.steps[0].1, self.timer).unwrap_or(ups[0]);
         self.draw_wave(svg, top, band.ends, &strokes(band, before, &ups));
-        for ((moment, _), (x, up)) in band.steps.iter().zip(band.places.iter().zip(ups)) {
-            self.draw_mark(svg, top, (*x, self.level(top, up)), moment);
+        let befores = [before].into_iter().chain(ups.iter().copied());
+        let places = band.places.iter().zip(befores.zip(&ups));
+        for ((moment, _), (&x, (before, &up))) in band.steps.iter().zip(places) {
+            let moved = moved_of(moment, TIMERS[self.timer]);
+            if !moved.is_empty() {
+                svg.diamond("mark", (x, self.level(top, up)));
+                draw_notes(svg, (x, self.level(top, before || up)), &moved);
+            }
         }
     }
 
@@ -85,20 +91,18 @@ impl Track {
         });
         svg.polyline("wave", &points.collect::<Vec<_>>());
     }
+}
 
-    fn draw_mark(&self, svg: &mut Svg, top: usize, place: (usize, usize), moment: &Moment) {
-        let moved = moved_of(moment, TIMERS[self.timer]);
-        let Some(widest) = moved.iter().map(|note| words_width(note)).max() else {
-            return;
-        };
-        let (x, notes) = (place.0, top + GAP / 2);
-        let (left, right) = (x - widest / 2, x + widest / 2);
-        svg.diamond("mark", place);
-        // The column that goes down there would run through the words.
-        svg.area("paper", (left, notes), (right, notes + NOTE * moved.len()));
-        for (line, note) in moved.iter().enumerate() {
-            svg.words("note", x, notes + NOTE * (line + 1) - 3, note);
-        }
+/// Notes close above a place, where they cover no part of the line that leads there or goes on.
+fn draw_notes(svg: &mut Svg, (x, y): (usize, usize), notes: &[String]) {
+    let bottom = y - GAP / 2;
+    let top = bottom - NOTE * notes.len();
+    let widths = notes.iter().map(|note| words_width(note));
+    let half = widths.max().unwrap_or_default() / 2;
+    // The column that goes down there would run through the words.
+    svg.area("paper", (x - half, top), (x + half, bottom));
+    for (line, note) in notes.iter().enumerate() {
+        svg.words("note", x, top + NOTE * (line + 1) - 3, note);
     }
 }
 

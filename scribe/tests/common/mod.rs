@@ -1,11 +1,12 @@
 //! How the tests call the command, and the files that they lend it.
 
+use std::ffi::OsStr;
 use std::fs;
 use std::io::Write;
 use std::path::PathBuf;
 use std::process::{Command, Output, Stdio};
 
-pub fn scribe(arguments: &[&str], input: &[u8]) -> Output {
+pub fn scribe(arguments: &[impl AsRef<OsStr>], input: &[u8]) -> Output {
     let mut child = Command::new(env!("CARGO_BIN_EXE_scribe"))
         .args(arguments)
         .stdin(Stdio::piped())
