@@ -1,4 +1,4 @@
-// The answers by their numbers, 0 to 3 made from the word (RULES, 'What the desk answers').
+// The answers by their numbers, 0 to 3 and 10 made from the word (RULES, 'What the desk answers').
 ghost use mathlib.Core.Path.{_≡_};
 ghost use Rattle.rules.specs.Answers.{doneRead, doneWrite, undefinedAt, asBefore};
 ghost use Rattle.rules.specs.Answers as rule;
@@ -20,7 +20,9 @@ pub const NOT_A_TIMER_ACCESS: u8 = 4;
 
 pub const IMPOSSIBLE_CONTEXT: u8 = 5;
 
-// 0 to 3 give the word's Rt.
+pub const TRAP_TO_EL3: u8 = 10;
+
+// 0 to 3 and 10 give the word's Rt.
 fn answered(number: u8, word: u32, value: u64, mask: u64) -> Answer
     ensures { λ r. ⌜ r ≡ rule.answered number word value mask ⌝ }
 {

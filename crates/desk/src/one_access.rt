@@ -7,6 +7,7 @@ use crate::answers::IMPOSSIBLE_CONTEXT;
 use crate::answers::NOT_A_TIMER_ACCESS;
 use crate::answers::TRAP_TO_EL1;
 use crate::answers::TRAP_TO_EL2;
+use crate::answers::TRAP_TO_EL3;
 use crate::answers::as_before;
 use crate::answers::done_read;
 use crate::answers::done_write;
@@ -65,6 +66,7 @@ fn ruled(f: Facts, s: State, a: Access, verdict: Verdict) -> Outcome
         Verdict::Undefined => as_before(s, undefined(word)),
         Verdict::ToEl1 => as_before(s, trapped(TRAP_TO_EL1, word)),
         Verdict::ToEl2 => as_before(s, trapped(TRAP_TO_EL2, word)),
+        Verdict::ToEl3 => as_before(s, trapped(TRAP_TO_EL3, word)),
         Verdict::Reaches(target) => permitted(f, s, a, target),
     }
 }

@@ -81,6 +81,7 @@ pub fn facts(s: State, level: u8) -> Facts
         sel2,
         ecv,
         eel2,
+        ecven,
         e2h,
         tge,
         on,

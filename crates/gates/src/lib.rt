@@ -1,6 +1,7 @@
 // Who may touch what: the facts of a state at a level, and the verdict on an access to each register.
 mod cntp;
 mod cntv;
+mod control;
 mod counters;
 mod el2;
 mod facts_of;

@@ -3,6 +3,9 @@ ghost use mathlib.Core.Path.{_≡_};
 ghost use Rattle.rules.specs.Verdicts.{verdictOf};
 use crate::cntp::cntp;
 use crate::cntv::cntv;
+use crate::control::cnthctl;
+use crate::control::cntkctl;
+use crate::control::cntpoff;
 use crate::counters::cntpct;
 use crate::counters::cntvct;
 use crate::counters::read_only;
@@ -27,5 +30,8 @@ pub fn verdict(f: Facts, name: Name, mrs: bool) -> Verdict
         Name::Cntvoff => cntvoff(f),
         Name::Cnthp(p) => cnthp(f, p),
         Name::Cnthvs(p) => cnthvs(f, p),
+        Name::Cntkctl => cntkctl(f),
+        Name::Cnthctl => cnthctl(f),
+        Name::Cntpoff => cntpoff(f),
     }
 }

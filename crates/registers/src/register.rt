@@ -166,8 +166,35 @@ impl Register {
         op2: 2,
     };
 
+    pub const CNTKCTL_EL1: Register = Register {
+        name: Name::Cntkctl,
+        op0: 3,
+        op1: 0,
+        crn: 14,
+        crm: 1,
+        op2: 0,
+    };
+
+    pub const CNTHCTL_EL2: Register = Register {
+        name: Name::Cnthctl,
+        op0: 3,
+        op1: 4,
+        crn: 14,
+        crm: 1,
+        op2: 0,
+    };
+
+    pub const CNTPOFF_EL2: Register = Register {
+        name: Name::Cntpoff,
+        op0: 3,
+        op1: 4,
+        crn: 14,
+        crm: 0,
+        op2: 6,
+    };
+
     // In the order of the name table.
-    pub const ALL: [Register; 17] = [
+    pub const ALL: [Register; 20] = [
         Register::CNTPCT_EL0,
         Register::CNTVCT_EL0,
         Register::CNTPCTSS_EL0,
@@ -185,5 +212,8 @@ impl Register {
         Register::CNTHVS_TVAL_EL2,
         Register::CNTHVS_CTL_EL2,
         Register::CNTHVS_CVAL_EL2,
+        Register::CNTKCTL_EL1,
+        Register::CNTHCTL_EL2,
+        Register::CNTPOFF_EL2,
     ];
 }

@@ -3,5 +3,6 @@ pub mod Journal
 pub mod Lease
 pub mod Readings
 pub mod Rules
+pub mod Stored
 pub mod Timers
 pub mod Verdicts

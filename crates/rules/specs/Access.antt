@@ -8,12 +8,12 @@ use Rattle.rules.specs.declared.name.Lookup.the-variants.{Named, NotName
 use Rattle.rules.specs.declared.state.State.{State}
 use Rattle.rules.specs.declared.verdict.Target.{Target}
 use Rattle.rules.specs.declared.verdict.Verdict.{Verdict}
-use Rattle.rules.specs.declared.verdict.Verdict.the-variants.{Undefined, ToEl1, ToEl2, Reaches}
+use Rattle.rules.specs.declared.verdict.Verdict.the-variants.{Undefined, ToEl1, ToEl2, ToEl3, Reaches}
 use Rattle.rules.specs.Words.{factsOf}
 use Rattle.rules.specs.Names.{nameOf, isMrs, writtenOperand}
 use Rattle.rules.specs.Verdicts.{verdictOf}
 use Rattle.rules.specs.Values.{readOf, writeOf}
-use Rattle.rules.specs.Answers.{trapToEl1, trapToEl2, notATimerAccess, impossibleContext, doneRead, doneWrite, undefinedAt, trapped, refused, asBefore}
+use Rattle.rules.specs.Answers.{trapToEl1, trapToEl2, trapToEl3, notATimerAccess, impossibleContext, doneRead, doneWrite, undefinedAt, trapped, refused, asBefore}
 use Rattle.rules.specs.Context.{impossibleAt}
 
 -- Below, f are the facts of the state s at the access's level.
@@ -30,6 +30,7 @@ unfoldable pub ruled : Facts → State → Access → Verdict → Outcome
 ruled f s a Undefined = asBefore s (undefinedAt (a .word))
 ruled f s a ToEl1 = asBefore s (trapped trapToEl1 (a .word))
 ruled f s a ToEl2 = asBefore s (trapped trapToEl2 (a .word))
+ruled f s a ToEl3 = asBefore s (trapped trapToEl3 (a .word))
 ruled f s a (Reaches target) = permitted f s a target
 
 -- what an access whose word was looked up comes to: 4, 5, then the rules

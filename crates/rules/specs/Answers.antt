@@ -1,4 +1,5 @@
--- 'What the desk answers': the numbers 0 to 6, with what each returns and leaves; 7 and 8 belong to the journal.
+-- 'What the desk answers': the numbers 0 to 6 and 10, with what each returns and leaves; 7 and 8 belong to the
+-- journal.
 use Prim.Native.Nat.{ℕ}
 use Rattle.rules.specs.declared.answer.Answer.{Answer}
 use Rattle.rules.specs.declared.answer.Outcome.{Outcome}
@@ -34,10 +35,14 @@ impossibleContext = 5
 abbrev pub reservedBitSet : ℕ
 reservedBitSet = 6
 
+-- 10, trap to EL3, class 0x18 (document 02, request 1): a later trap number is answered as 2
+abbrev pub trapToEl3 : ℕ
+trapToEl3 = 10
+
 abbrev pub answer : ℕ → ℕ → ℕ → ℕ → Answer
 answer number rt value mask = record { number = number; rt = rt; value = value; mask = mask }
 
--- 0 to 3 give the word's Rt
+-- 0 to 3 give the word's Rt, and so does 10
 abbrev pub answered : ℕ → ℕ → ℕ → ℕ → Answer
 answered number word value mask = answer number (rtOf word) value mask
 

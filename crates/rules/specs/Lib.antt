@@ -8,11 +8,13 @@ pub mod Cntp
 pub mod Cntv
 pub mod Counters
 pub mod El2
+pub mod Control
 pub mod Verdicts
 pub mod Arithmetic
 pub mod Timers
 pub mod States
 pub mod Counts
+pub mod Stored
 pub mod Values
 pub mod Answers
 pub mod Context

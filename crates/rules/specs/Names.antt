@@ -1,11 +1,11 @@
--- 'Instruction words and register names': what the bits of a word say, and the table of the seventeen registers.
+-- 'Instruction words and register names': what the bits of a word say, and the table of the twenty registers.
 use Prim.Native.Nat.{ℕ, _+_}
 use mathlib.Core.Bool.{Bool, cond, _&&_}
 use mathlib.Core.List.{List, [], _∷_}
 use lib.Dec.{eqb}
 use Rattle.rules.specs.declared.access.Access.{Access}
 use Rattle.rules.specs.declared.name.Name.{Name}
-use Rattle.rules.specs.declared.name.Name.the-variants.{Cntpct, Cntvct, Cntpctss, Cntvctss, Cntp, Cntv, Cntvoff, Cnthp, Cnthvs}
+use Rattle.rules.specs.declared.name.Name.the-variants.{Cntpct, Cntvct, Cntpctss, Cntvctss, Cntp, Cntv, Cntvoff, Cnthp, Cnthvs, Cntkctl, Cnthctl, Cntpoff}
 use Rattle.rules.specs.declared.name.Part.the-variants.{Tval, Ctl, Cval}
 use Rattle.rules.specs.declared.name.Lookup.{Lookup}
 use Rattle.rules.specs.declared.name.Lookup.the-variants.{Named, NotNamed}
@@ -78,6 +78,9 @@ nameTable =
     ∷ row (Cnthvs Tval) 3 4 14 4 0
     ∷ row (Cnthvs Ctl) 3 4 14 4 1
     ∷ row (Cnthvs Cval) 3 4 14 4 2
+    ∷ row Cntkctl 3 0 14 1 0
+    ∷ row Cnthctl 3 4 14 1 0
+    ∷ row Cntpoff 3 4 14 0 6
     ∷ []
 
 -- a word has a register's five numbers

@@ -10,12 +10,13 @@ use Rattle.rules.specs.declared.name.Part.the-variants.{Tval, Ctl, Cval}
 use Rattle.rules.specs.declared.state.State.{State}
 use Rattle.rules.specs.declared.state.Timer.{Timer}
 use Rattle.rules.specs.declared.verdict.Target.{Target}
-use Rattle.rules.specs.declared.verdict.Target.the-variants.{Cntpct, Cntvct, Cntvoff}
+use Rattle.rules.specs.declared.verdict.Target.the-variants.{Cntpct, Cntvct, Cntvoff, Cntkctl, Cnthctl, Cntpoff}
 use Rattle.rules.specs.Bits.{bit}
 use Rattle.rules.specs.Arithmetic.{_plus_, _less_, signed32}
 use Rattle.rules.specs.Timers.{timerOf, get, put}
-use Rattle.rules.specs.States.{withTimers, withCntvoff}
+use Rattle.rules.specs.States.{withTimers, withCntvoff, withCntpoff, withCntkctl, withCnthctl}
 use Rattle.rules.specs.Counts.{physicalSeen, virtualSeen, usedCount, conditionCount}
+use Rattle.rules.specs.Stored.{storedCntkctl, storedCnthctl}
 
 -- a value whose bits are all known
 abbrev pub known : ℕ → Value
@@ -68,19 +69,26 @@ writeTimer t Tval used x = writeTval t used x
 writeTimer t Ctl used x = writeCtl t x
 writeTimer t Cval used x = writeCval t x
 
--- what a register that was reached reads as, by the facts of the state at the access's level; CNTVOFF whole
+-- what a register that was reached reads as, by the facts of the state at the access's level; CNTVOFF and CNTPOFF whole, of
+-- CNTKCTL and CNTHCTL the 32 bits that the state holds
 unfoldable pub readOf : Facts → State → ℕ → Target → Value
 readOf f s physical Cntpct = known (physicalSeen f s physical)
 readOf f s physical Cntvct = known (virtualSeen f s physical)
 readOf f s physical Cntvoff = known (s .cntvoff)
 readOf f s physical (Target.Timer t p) =
     readTimer (get (s .timers) t) p (usedCount f s physical t) (conditionCount (f .offset) s physical t)
+readOf f s physical Cntkctl = known (s .controls .cntkctl)
+readOf f s physical Cnthctl = known (s .controls .cnthctl)
+readOf f s physical Cntpoff = known (s .cntpoff)
 
--- the state after a write of a register that was reached, CNTVOFF whole; no write reaches a counter, since MSR of one is
--- Undefined
+-- the state after a write of a register that was reached, CNTVOFF and CNTPOFF whole, of CNTKCTL and CNTHCTL the stored bits;
+-- no write reaches a counter, since MSR of one is Undefined
 unfoldable pub writeOf : Facts → State → ℕ → Target → ℕ → State
 writeOf f s physical Cntpct x = s
 writeOf f s physical Cntvct x = s
 writeOf f s physical Cntvoff x = withCntvoff s x
 writeOf f s physical (Target.Timer t p) x =
     withTimers s (put (s .timers) t (writeTimer (get (s .timers) t) p (usedCount f s physical t) x))
+writeOf f s physical Cntkctl x = withCntkctl s (storedCntkctl (f .ecv) x)
+writeOf f s physical Cnthctl x = withCnthctl s (storedCnthctl (f .e2h) (f .ecv) x)
+writeOf f s physical Cntpoff x = withCntpoff s x

@@ -65,6 +65,7 @@ module _ (s : State) where
         sel2 = sel2;
         ecv = ecv;
         eel2 = eel2;
+        ecven = ecven;
         e2h = e2h;
         tge = tge;
         on = on;

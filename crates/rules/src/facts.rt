@@ -29,6 +29,7 @@ pub struct Facts {
     pub sel2: bool,
     pub ecv: bool,
     pub eel2: bool,
+    pub ecven: bool,
     pub e2h: bool,
     pub tge: bool,
     pub on: bool,

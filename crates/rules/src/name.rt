@@ -17,6 +17,9 @@ pub enum Name {
     Cntvoff,
     Cnthp(Part),
     Cnthvs(Part),
+    Cntkctl,
+    Cnthctl,
+    Cntpoff,
 }
 
 // What an instruction word is taken to: a name, or none if it is no MRS or MSR or not in the name table.

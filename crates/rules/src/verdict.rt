@@ -7,11 +7,15 @@ pub enum Target {
     Cntvct,
     Cntvoff,
     Timer(TimerName, Part),
+    Cntkctl,
+    Cnthctl,
+    Cntpoff,
 }
 
 pub enum Verdict {
     Undefined,
     ToEl1,
     ToEl2,
+    ToEl3,
     Reaches(Target),
 }

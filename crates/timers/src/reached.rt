@@ -1,7 +1,9 @@
 // What a register that was reached reads as, and what a write of it leaves.
 ghost use mathlib.Core.Path.{_≡_};
-ghost use Rattle.rules.specs.States.{withCntvoff};
+ghost use Rattle.rules.specs.States.{withCntvoff, withCntpoff, withCntkctl, withCnthctl};
+ghost use Rattle.rules.specs.Stored.{storedCntkctl, storedCnthctl};
 ghost use Rattle.rules.specs.Values.{readOf, writeOf};
+ghost use Rattle.rules.specs.Values as rule;
 use crate::counts::count_of;
 use crate::counts::offset_seen;
 use crate::counts::physical_seen;
@@ -11,6 +13,8 @@ use crate::six::put;
 use crate::timer::known;
 use crate::timer::read_timer;
 use crate::timer::write_timer;
+use controls::stored_cnthctl;
+use controls::stored_cntkctl;
 use rules::Facts;
 use rules::Part;
 use rules::State;
@@ -29,6 +33,20 @@ fn read_part(f: Facts, s: State, physical: u64, t: TimerName, p: Part) -> Value
     read_timer(timer, p, used, condition)
 }
 
+fn read_cntkctl(s: State) -> Value
+    ensures { λ r. ⌜ r ≡ rule.known (s .controls .cntkctl) ⌝ }
+{
+    let controls = s.controls;
+    known(controls.cntkctl as u64)
+}
+
+fn read_cnthctl(s: State) -> Value
+    ensures { λ r. ⌜ r ≡ rule.known (s .controls .cnthctl) ⌝ }
+{
+    let controls = s.controls;
+    known(controls.cnthctl as u64)
+}
+
 pub fn read(f: Facts, s: State, physical: u64, target: Target) -> Value
     ensures { λ r. ⌜ r ≡ readOf f s physical target ⌝ }
 {
@@ -37,6 +55,9 @@ pub fn read(f: Facts, s: State, physical: u64, target: Target) -> Value
         Target::Cntvct => known(virtual_seen(f, s, physical)),
         Target::Cntvoff => known(s.cntvoff),
         Target::Timer(t, p) => read_part(f, s, physical, t, p),
+        Target::Cntkctl => read_cntkctl(s),
+        Target::Cnthctl => read_cnthctl(s),
+        Target::Cntpoff => known(s.cntpoff),
     }
 }
 
@@ -60,6 +81,36 @@ fn write_cntvoff(s: State, x: u64) -> State
     next
 }
 
+fn write_cntpoff(s: State, x: u64) -> State
+    ensures { λ r. ⌜ r ≡ withCntpoff s x ⌝ }
+{
+    let mut next = s;
+    next.cntpoff = x;
+    next
+}
+
+fn write_cntkctl(f: Facts, s: State, x: u64) -> State
+    ensures { λ r. ⌜ r ≡ withCntkctl s (storedCntkctl (f .ecv) x) ⌝ }
+{
+    let stored = stored_cntkctl(f.ecv, x);
+    let mut controls = s.controls;
+    controls.cntkctl = stored;
+    let mut next = s;
+    next.controls = controls;
+    next
+}
+
+fn write_cnthctl(f: Facts, s: State, x: u64) -> State
+    ensures { λ r. ⌜ r ≡ withCnthctl s (storedCnthctl (f .e2h) (f .ecv) x) ⌝ }
+{
+    let stored = stored_cnthctl(f.e2h, f.ecv, x);
+    let mut controls = s.controls;
+    controls.cnthctl = stored;
+    let mut next = s;
+    next.controls = controls;
+    next
+}
+
 // No write reaches a counter: MSR of one is Undefined.
 pub fn write(f: Facts, s: State, physical: u64, target: Target, x: u64) -> State
     ensures { λ r. ⌜ r ≡ writeOf f s physical target x ⌝ }
@@ -69,5 +120,8 @@ pub fn write(f: Facts, s: State, physical: u64, target: Target, x: u64) -> State
         Target::Cntvct => s,
         Target::Cntvoff => write_cntvoff(s, x),
         Target::Timer(t, p) => write_part(f, s, physical, t, p, x),
+        Target::Cntkctl => write_cntkctl(f, s, x),
+        Target::Cnthctl => write_cnthctl(f, s, x),
+        Target::Cntpoff => write_cntpoff(s, x),
     }
 }

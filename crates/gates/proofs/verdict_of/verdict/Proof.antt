@@ -77,6 +77,24 @@ enum-known-name-4 c = search needs
 cnthvs-requires : tie.Need-cnthvs-requires
 cnthvs-requires c κs = search needs
 
+enum-told-6 : tie.Need-enum-told-6
+enum-told-6 c = search needs
+
+cntkctl-requires : tie.Need-cntkctl-requires
+cntkctl-requires c κs = search needs
+
+enum-told-7 : tie.Need-enum-told-7
+enum-told-7 c = search needs
+
+cnthctl-requires : tie.Need-cnthctl-requires
+cnthctl-requires c κs = search needs
+
+enum-told-8 : tie.Need-enum-told-8
+enum-told-8 c = search needs
+
+cntpoff-requires : tie.Need-cntpoff-requires
+cntpoff-requires c κs = search needs
+
 returns : tie.Need-returns
 unfolding verdictOf
 returns c = rw (c .before .before .enum-told .given .1, ← c .before .cntpct .ensures) (c .read-only .ensures)
@@ -113,6 +131,18 @@ returns-9 : tie.Need-returns-9
 unfolding verdictOf
 returns-9 c = rw (c .before .before .name4 .given .1) (c .cnthvs .ensures)
 
+returns-10 : tie.Need-returns-10
+unfolding verdictOf
+returns-10 c = rw (c .before .enum-told6 .given .1) (c .cntkctl .ensures)
+
+returns-11 : tie.Need-returns-11
+unfolding verdictOf
+returns-11 c = rw (c .before .enum-told7 .given .1) (c .cnthctl .ensures)
+
+returns-12 : tie.Need-returns-12
+unfolding verdictOf
+returns-12 c = rw (c .before .enum-told8 .given .1) (c .cntpoff .ensures)
+
 pub verdict-spec : {M : Type 1} → statement M
 verdict-spec =
     tie.close
@@ -141,6 +171,12 @@ verdict-spec =
     cnthp-requires
     enum-known-name-4
     cnthvs-requires
+    enum-told-6
+    cntkctl-requires
+    enum-told-7
+    cnthctl-requires
+    enum-told-8
+    cntpoff-requires
     returns
     returns-2
     returns-3
@@ -149,4 +185,7 @@ verdict-spec =
     returns-6
     returns-7
     returns-8
-    returns-9)
+    returns-9
+    returns-10
+    returns-11
+    returns-12)

@@ -1,7 +1,7 @@
 -- `look_up` meets its contract. The loop's invariant: what is left of the list, from i on, gives what the whole table gives.
 -- Each turn takes the head off the rest; past the last register the rest is empty.
 -- Assumes nothing.
-use Prim.Native.Nat.{_≤_, _-_}
+use Prim.Native.Nat.{ℕ, _≤_, _-_}
 use mathlib.Core.Path.{_≡_, refl, sym, _∙_}
 use borrow.Author.Needs.{needs}
 use Rattle.rules.specs.Names.{lookUp, nameTable}
@@ -9,12 +9,15 @@ use Rattle.registers.proofs.Walk.{foundFrom, found, passed, ended}
 use Rattle.registers.proofs.register.Register.look_up.Statement.{statement}
 use Rattle.registers.proofs.register.Register.look_up.Tie as tie
 
+abbrev registers : ℕ
+registers = 20
+
 abbrev Inv-loop : tie.InvT-loop
 Inv-loop word all i₀ i =
-    (i ≤ 17) × (foundFrom all i word ≡ lookUp nameTable word)
+    (i ≤ registers) × (foundFrom all i word ≡ lookUp nameTable word)
 
 abbrev μ-loop : tie.MeasureT-loop
-μ-loop word all i₀ i = 17 - i
+μ-loop word all i₀ i = registers - i
 
 loop-holds : tie.Need-loop-holds Inv-loop μ-loop
 unfolding nameTable
