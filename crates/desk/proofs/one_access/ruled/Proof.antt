@@ -32,6 +32,15 @@ trapped-requires-2 c κs = search needs
 as-before-requires-3 : tie.Need-as-before-requires-3
 as-before-requires-3 c κs = search needs
 
+enum-told-4 : tie.Need-enum-told-4
+enum-told-4 c = search needs
+
+trapped-requires-3 : tie.Need-trapped-requires-3
+trapped-requires-3 c κs = search needs
+
+as-before-requires-4 : tie.Need-as-before-requires-4
+as-before-requires-4 c κs = search needs
+
 enum-known-verdict : tie.Need-enum-known-verdict
 enum-known-verdict c = search needs
 
@@ -52,7 +61,11 @@ returns-3 c = rw (c .before .before .enum-told3 .given .1, ← c .before .trappe
 
 returns-4 : tie.Need-returns-4
 unfolding ruled
-returns-4 c = rw (c .before .before .verdict .given .1) (c .permitted .ensures)
+returns-4 c = rw (c .before .before .enum-told4 .given .1, ← c .before .trapped3 .ensures) (c .as-before4 .ensures)
+
+returns-5 : tie.Need-returns-5
+unfolding ruled
+returns-5 c = rw (c .before .before .verdict .given .1) (c .permitted .ensures)
 
 pub ruled-spec : {M : Type 1} → statement M
 ruled-spec =
@@ -67,9 +80,13 @@ ruled-spec =
     enum-told-3
     trapped-requires-2
     as-before-requires-3
+    enum-told-4
+    trapped-requires-3
+    as-before-requires-4
     enum-known-verdict
     permitted-requires
     returns
     returns-2
     returns-3
-    returns-4)
+    returns-4
+    returns-5)

@@ -35,6 +35,24 @@ enum-known-target c = search needs
 read-part-requires : tie.Need-read-part-requires
 read-part-requires c κs = search needs
 
+enum-told-4 : tie.Need-enum-told-4
+enum-told-4 c = search needs
+
+read-cntkctl-requires : tie.Need-read-cntkctl-requires
+read-cntkctl-requires c κs = search needs
+
+enum-told-5 : tie.Need-enum-told-5
+enum-told-5 c = search needs
+
+read-cnthctl-requires : tie.Need-read-cnthctl-requires
+read-cnthctl-requires c κs = search needs
+
+enum-told-6 : tie.Need-enum-told-6
+enum-told-6 c = search needs
+
+known-requires-4 : tie.Need-known-requires-4
+known-requires-4 c κs = search needs
+
 returns : tie.Need-returns
 unfolding readOf
 returns c = rw (c .before .before .enum-told .given .1, ← c .before .physical-seen .ensures) (c .known .ensures)
@@ -50,6 +68,18 @@ returns-3 c = rw (c .before .enum-told3 .given .1) (c .known3 .ensures)
 returns-4 : tie.Need-returns-4
 returns-4 c = rw (c .before .before .target .given .1) (c .read-part .ensures)
 
+returns-5 : tie.Need-returns-5
+unfolding readOf
+returns-5 c = rw (c .before .enum-told4 .given .1) (c .read-cntkctl .ensures)
+
+returns-6 : tie.Need-returns-6
+unfolding readOf
+returns-6 c = rw (c .before .enum-told5 .given .1) (c .read-cnthctl .ensures)
+
+returns-7 : tie.Need-returns-7
+unfolding readOf
+returns-7 c = rw (c .before .enum-told6 .given .1) (c .known4 .ensures)
+
 pub read-spec : {M : Type 1} → statement M
 read-spec =
     tie.close
@@ -64,7 +94,16 @@ read-spec =
     known-requires-3
     enum-known-target
     read-part-requires
+    enum-told-4
+    read-cntkctl-requires
+    enum-told-5
+    read-cnthctl-requires
+    enum-told-6
+    known-requires-4
     returns
     returns-2
     returns-3
-    returns-4)
+    returns-4
+    returns-5
+    returns-6
+    returns-7)
