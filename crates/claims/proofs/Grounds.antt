@@ -15,7 +15,7 @@ use Rattle.rules.specs.declared.name.Lookup.the-variants.{Named, NotNamed}
 use Rattle.rules.specs.declared.name.Name.{Name}
 use Rattle.rules.specs.declared.state.State.{State}
 use Rattle.rules.specs.declared.verdict.Verdict.{Verdict}
-use Rattle.rules.specs.declared.verdict.Verdict.the-variants.{Undefined, ToEl1, ToEl2, Reaches}
+use Rattle.rules.specs.declared.verdict.Verdict.the-variants.{Undefined, ToEl1, ToEl2, ToEl3, Reaches}
 use Rattle.rules.specs.Bits.{bits, bit}
 use Rattle.rules.specs.Words.{EL1, EL2, EL3, on, factsOf}
 use Rattle.rules.specs.Names.{nameOf, isMrs}
@@ -215,6 +215,7 @@ module _ (s : State) (a : Access) where
   by-verdict Undefined e = omega arith
   by-verdict ToEl1 e = omega arith
   by-verdict ToEl2 e = omega arith
+  by-verdict ToEl3 e = omega arith
   by-verdict (Reaches target) e =
       let done : permitted (factsOf s (a .level)) s a target .answer .number ≡ 0 = permitted-is-done (factsOf s (a .level)) s a target in
       omega arith

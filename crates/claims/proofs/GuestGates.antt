@@ -1,5 +1,5 @@
--- What the gates tell the guest of demand 3: they stop it, answer Undefined, or let it reach CNTVCT or its own virtual
--- timer. Of CNTP and CNTPCT it meets (b) or (c) at EL0 and the EL1 rule at EL1; EL2's own timers need host.
+-- What the gates tell the guest of demand 3: they stop it, answer Undefined, or let it reach CNTVCT, its own virtual timer
+-- or CNTKCTL. Of CNTP and CNTPCT it meets (b) or (c) at EL0 and the EL1 rule at EL1; EL2's own timers need host.
 -- Assumes nothing.
 use Prim.Native.Nat.{ℕ}
 use mathlib.Core.Bool.{Bool, true, false, cond, not, _&&_, and-eq-true-iff}
@@ -9,19 +9,20 @@ use mathlib.Core.Path.{_≡_, refl, _∙_}
 use borrow.Author.Tests.{not-true}
 use Rattle.rules.specs.declared.facts.Facts.{Facts}
 use Rattle.rules.specs.declared.name.Name.{Name}
-use Rattle.rules.specs.declared.name.Name.the-variants.{Cntpct, Cntvct, Cntpctss, Cntvctss, Cntp, Cntv, Cntvoff, Cnthp, Cnthvs}
+use Rattle.rules.specs.declared.name.Name.the-variants.{Cntpct, Cntvct, Cntpctss, Cntvctss, Cntp, Cntv, Cntvoff, Cnthp, Cnthvs, Cntkctl, Cnthctl, Cntpoff}
 use Rattle.rules.specs.declared.name.Part.{Part}
 use Rattle.rules.specs.declared.state.State.{State}
 use Rattle.rules.specs.declared.state.TimerName.{TimerName}
 use Rattle.rules.specs.declared.verdict.Target.{Target}
 use Rattle.rules.specs.declared.verdict.Verdict.{Verdict}
-use Rattle.rules.specs.declared.verdict.Verdict.the-variants.{Undefined, ToEl1, ToEl2, Reaches}
+use Rattle.rules.specs.declared.verdict.Verdict.the-variants.{Undefined, ToEl1, ToEl2, ToEl3, Reaches}
 use Rattle.rules.specs.Words.{EL0, EL1, on, cnthctl, factsOf}
 use Rattle.rules.specs.Rules.{_⇒_, first, timer}
 use Rattle.rules.specs.Cntp.{denied, aToD, el1Rule, cntp}
 use Rattle.rules.specs.Cntv.{aToC, cntv}
 use Rattle.rules.specs.Counters.{cntpct, cntvct, selfSynchronized}
 use Rattle.rules.specs.El2.{cntvoff, cnthp, cnthvs}
+use Rattle.rules.specs.Control as control
 use Rattle.rules.specs.Verdicts.{verdictOf}
 use Rattle.rules.proofs.Rules.{cond-holds, first-holds}
 use Rattle.claims.specs.Guests.{TrappedGuest}
@@ -34,15 +35,19 @@ Own TimerName.Cnthv = ⊥
 Own TimerName.Cnthps = ⊥
 Own TimerName.Cnthvs = ⊥
 
--- a verdict that lets it reach CNTVCT or CNTV, or nothing
+-- a verdict that lets it reach CNTVCT, CNTV or CNTKCTL, or nothing
 abbrev pub OwnOnly : Verdict → Type 0
 OwnOnly Undefined = Unit {0}
 OwnOnly ToEl1 = Unit {0}
 OwnOnly ToEl2 = Unit {0}
+OwnOnly ToEl3 = Unit {0}
 OwnOnly (Reaches Target.Cntpct) = ⊥
 OwnOnly (Reaches Target.Cntvct) = Unit {0}
 OwnOnly (Reaches Target.Cntvoff) = ⊥
 OwnOnly (Reaches (Target.Timer t p)) = Own t
+OwnOnly (Reaches Target.Cntkctl) = Unit {0}
+OwnOnly (Reaches Target.Cnthctl) = ⊥
+OwnOnly (Reaches Target.Cntpoff) = ⊥
 
 -- the facts of such a guest
 pub record GuestFacts (f : Facts) : Type 0 where
@@ -137,6 +142,18 @@ module _ (f : Facts) (g : GuestFacts f) where
   unfolding cnthvs
   cnthvs-own p = undefined-or (not (f .vhe && f .sel2)) _ (⊎-elim (λ l. rw l tt) (λ l. rw l tt) (g .low))
 
+  cntkctl-own : OwnOnly (control.cntkctl f)
+  unfolding control.cntkctl
+  cntkctl-own = ⊎-elim (λ l. rw l tt) (λ l. rw l tt) (g .low)
+
+  cnthctl-own : OwnOnly (control.cnthctl f)
+  unfolding control.cnthctl
+  cnthctl-own = ⊎-elim (λ l. rw l tt) (λ l. rw l tt) (g .low)
+
+  cntpoff-own : OwnOnly (control.cntpoff f)
+  unfolding control.cntpoff
+  cntpoff-own = undefined-or (not (f .ecv)) _ (⊎-elim (λ l. rw l tt) (λ l. rw l tt) (g .low))
+
   pub own-only : (name : Name) (mrs : Bool) → OwnOnly (verdictOf f name mrs)
   unfolding verdictOf
   own-only Cntpct mrs = undefined-or (not mrs) (cntpct f) cntpct-own
@@ -150,3 +167,6 @@ module _ (f : Facts) (g : GuestFacts f) where
   own-only Cntvoff mrs = cntvoff-own
   own-only (Cnthp p) mrs = cnthp-own p
   own-only (Cnthvs p) mrs = cnthvs-own p
+  own-only Cntkctl mrs = cntkctl-own
+  own-only Cnthctl mrs = cnthctl-own
+  own-only Cntpoff mrs = cntpoff-own

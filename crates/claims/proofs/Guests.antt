@@ -19,21 +19,24 @@ use Rattle.rules.specs.declared.name.Part.{Part}
 use Rattle.rules.specs.declared.state.Controls.{Controls}
 use Rattle.rules.specs.declared.state.Features.{Features}
 use Rattle.rules.specs.declared.state.State.{State}
+use Rattle.rules.specs.declared.state.Timer.{Timer}
 use Rattle.rules.specs.declared.state.TimerName.{TimerName}
 use Rattle.rules.specs.declared.state.TimerName.the-variants.{Cntv}
 use Rattle.rules.specs.declared.verdict.Target.{Target}
 use Rattle.rules.specs.declared.verdict.Verdict.{Verdict}
-use Rattle.rules.specs.declared.verdict.Verdict.the-variants.{Undefined, ToEl1, ToEl2, Reaches}
+use Rattle.rules.specs.declared.verdict.Verdict.the-variants.{Undefined, ToEl1, ToEl2, ToEl3, Reaches}
 use Rattle.rules.specs.Words.{EL0, EL1, EL2, physicalTrapped, factsOf}
 use Rattle.rules.specs.Names.{nameOf, isMrs, writtenOperand}
 use Rattle.rules.specs.Verdicts.{verdictOf}
 use Rattle.rules.specs.Counts.{virtual, virtualSeen, countOf}
+use Rattle.rules.specs.Stored.{storedCntkctl}
 use Rattle.rules.specs.Values.{known, readTimer, writeTimer, readOf, writeOf}
-use Rattle.rules.specs.Answers.{trapToEl1, trapToEl2, notATimerAccess, impossibleContext, doneRead, doneWrite, undefinedAt, trapped, refused}
+use Rattle.rules.specs.Answers.{trapToEl1, trapToEl2, trapToEl3, notATimerAccess, impossibleContext, doneRead, doneWrite, undefinedAt, trapped, refused}
 use Rattle.rules.specs.Context.{impossible, impossibleAt}
 use Rattle.rules.specs.Access.{permitted, ruled, served, accessOf}
-use Rattle.claims.specs.Desk.{Desk}
-use Rattle.claims.specs.Guests.{TrappedGuest, Own, own, withOwn, Alike, asSeen, SameShown, AllShown, NothingElseMoved, AlikeAgain, OneAlike, OneAccess, SequencesAlike, Demand3, GuestClaim}
+use Rattle.rules.proofs.Timers.{get-put-other}
+use Rattle.claims.specs.Desk.{Desk, Permitted}
+use Rattle.claims.specs.Guests.{TrappedGuest, Own, own, withOwn, Alike, asSeen, SameShown, AllShown, NothingElseMoved, OthersStand, AlikeAgain, OneAlike, OneAccess, SequencesAlike, Demand3, OutOfReach, GuestClaim}
 use Rattle.claims.proofs.GuestGates.{OwnOnly, GuestFacts, guest-facts, own-only, and-false}
 
 -- ---- what the guest may know, and what it gets by it
@@ -50,22 +53,35 @@ seen answer left = record { answer = answer; left = left }
 abbrev doneEither : ℕ → Answer → Answer
 doneEither word read = cond (isMrs word) read (doneWrite word)
 
+-- its own part after a write of one of the two
+abbrev withCntv : Own → Timer → Own
+withCntv mine x = record { cntv = x; cntkctl = mine .cntkctl }
+
+abbrev withItsCntkctl : Own → ℕ → Own
+withItsCntkctl mine x = record { cntv = mine .cntv; cntkctl = x }
+
 -- by a verdict that lets it reach its own alone, of an access as the guest sees it; the other cases are no such verdict's
-abbrev seenBy : Access → Own → Verdict → Seen
-seenBy x mine Undefined = seen (undefinedAt (x .word)) mine
-seenBy x mine ToEl1 = seen (trapped trapToEl1 (x .word)) mine
-seenBy x mine ToEl2 = seen (trapped trapToEl2 (x .word)) mine
-seenBy x mine (Reaches Target.Cntpct) = seen (refused notATimerAccess) mine
-seenBy x mine (Reaches Target.Cntvct) = seen (doneEither (x .word) (doneRead (x .word) (known (x .count)))) mine
-seenBy x mine (Reaches Target.Cntvoff) = seen (refused notATimerAccess) mine
-seenBy x mine (Reaches (Target.Timer t p)) =
-    seen (doneEither (x .word) (doneRead (x .word) (readTimer mine p (x .count) (x .count))))
-    (cond (isMrs (x .word)) mine (writeTimer mine p (x .count) (writtenOperand x)))
+abbrev seenBy : Facts → Access → Own → Verdict → Seen
+seenBy f x mine Undefined = seen (undefinedAt (x .word)) mine
+seenBy f x mine ToEl1 = seen (trapped trapToEl1 (x .word)) mine
+seenBy f x mine ToEl2 = seen (trapped trapToEl2 (x .word)) mine
+seenBy f x mine ToEl3 = seen (trapped trapToEl3 (x .word)) mine
+seenBy f x mine (Reaches Target.Cntpct) = seen (refused notATimerAccess) mine
+seenBy f x mine (Reaches Target.Cntvct) = seen (doneEither (x .word) (doneRead (x .word) (known (x .count)))) mine
+seenBy f x mine (Reaches Target.Cntvoff) = seen (refused notATimerAccess) mine
+seenBy f x mine (Reaches (Target.Timer t p)) =
+    seen (doneEither (x .word) (doneRead (x .word) (readTimer (mine .cntv) p (x .count) (x .count))))
+    (cond (isMrs (x .word)) mine (withCntv mine (writeTimer (mine .cntv) p (x .count) (writtenOperand x))))
+seenBy f x mine (Reaches Target.Cntkctl) =
+    seen (doneEither (x .word) (doneRead (x .word) (known (mine .cntkctl))))
+    (cond (isMrs (x .word)) mine (withItsCntkctl mine (storedCntkctl (f .ecv) (writtenOperand x))))
+seenBy f x mine (Reaches Target.Cnthctl) = seen (refused notATimerAccess) mine
+seenBy f x mine (Reaches Target.Cntpoff) = seen (refused notATimerAccess) mine
 
 abbrev seenOf : Facts → Bool → Access → Own → Lookup → Seen
 seenOf f impossible x mine NotNamed = seen (refused notATimerAccess) mine
 seenOf f impossible x mine (Named name) =
-    cond impossible (seen (refused impossibleContext) mine) (seenBy x mine (verdictOf f name (isMrs (x .word))))
+    cond impossible (seen (refused impossibleContext) mine) (seenBy f x mine (verdictOf f name (isMrs (x .word))))
 
 -- on a state, that answer and the state with that part put in
 abbrev on : State → Seen → Outcome
@@ -82,21 +98,27 @@ virtual-alone : (f : Facts) (s : State) (count : ℕ) → GuestFacts f → virtu
 virtual-alone f s count g = rw (no-host-no-el2 f g)
 
 module _ (f : Facts) (g : GuestFacts f) (s : State) (a : Access) where
-  reached-cntvct : (b : Bool) → isMrs (a .word) ≡ b → permitted f s a Target.Cntvct ≡ on s (seenBy (asSeen s a) (own s) (Reaches Target.Cntvct))
+  reached-cntvct : (b : Bool) → isMrs (a .word) ≡ b → permitted f s a Target.Cntvct ≡ on s (seenBy f (asSeen s a) (own s) (Reaches Target.Cntvct))
   unfolding permitted readOf writeOf
   reached-cntvct true e = rw (e, virtual-alone f s (a .count) g)
   reached-cntvct false e = rw e
 
-  reached-cntv : (p : Part) (b : Bool) → isMrs (a .word) ≡ b → permitted f s a (Target.Timer Cntv p) ≡ on s (seenBy (asSeen s a) (own s) (Reaches (Target.Timer Cntv p)))
+  reached-cntv : (p : Part) (b : Bool) → isMrs (a .word) ≡ b → permitted f s a (Target.Timer Cntv p) ≡ on s (seenBy f (asSeen s a) (own s) (Reaches (Target.Timer Cntv p)))
   unfolding permitted readOf writeOf countOf
   reached-cntv p true e = rw e
   reached-cntv p false e = rw e
 
-  ruled-factors : (v : Verdict) → OwnOnly v → ruled f s a v ≡ on s (seenBy (asSeen s a) (own s) v)
+  reached-cntkctl : (b : Bool) → isMrs (a .word) ≡ b → permitted f s a Target.Cntkctl ≡ on s (seenBy f (asSeen s a) (own s) (Reaches Target.Cntkctl))
+  unfolding permitted readOf writeOf
+  reached-cntkctl true e = rw e
+  reached-cntkctl false e = rw e
+
+  ruled-factors : (v : Verdict) → OwnOnly v → ruled f s a v ≡ on s (seenBy f (asSeen s a) (own s) v)
   unfolding ruled
   ruled-factors Undefined mine = refl
   ruled-factors ToEl1 mine = refl
   ruled-factors ToEl2 mine = refl
+  ruled-factors ToEl3 mine = refl
   ruled-factors (Reaches Target.Cntpct) mine = absurd mine
   ruled-factors (Reaches Target.Cntvct) mine = reached-cntvct (isMrs (a .word)) refl
   ruled-factors (Reaches Target.Cntvoff) mine = absurd mine
@@ -106,6 +128,9 @@ module _ (f : Facts) (g : GuestFacts f) (s : State) (a : Access) where
   ruled-factors (Reaches (Target.Timer TimerName.Cnthv p)) mine = absurd mine
   ruled-factors (Reaches (Target.Timer TimerName.Cnthps p)) mine = absurd mine
   ruled-factors (Reaches (Target.Timer TimerName.Cnthvs p)) mine = absurd mine
+  ruled-factors (Reaches Target.Cntkctl) mine = reached-cntkctl (isMrs (a .word)) refl
+  ruled-factors (Reaches Target.Cnthctl) mine = absurd mine
+  ruled-factors (Reaches Target.Cntpoff) mine = absurd mine
 
 -- what the guest gets for an access as it sees it
 abbrev seenFor : State → Access → Seen
@@ -193,7 +218,12 @@ module _ (s t m n : State) (again : AlikeAgain s t m n) where
   still P = subst₂ P (sym (again .here)) (sym (again .there))
 
   pub alike-still : Alike s t → Alike m n
-  alike-still e = still Alike (record { features = e .features; controls = e .controls; own = again .own })
+  alike-still e =
+      still Alike (record {
+        features = e .features;
+        controls = ap₂ (λ (c : Controls) (x : Own). withOwn (machine (s .features) c s) x .controls) (e .controls) (again .own);
+        own = again .own;
+      })
 
   pub trapped-still : TrappedGuest s → TrappedGuest m
   trapped-still g =
@@ -226,5 +256,36 @@ any-sequence desk one s t (a ∷ rest) (b ∷ bs) g e h =
       states = alike-on s t m n _ _ again (after .states);
     }
 
+-- ---- what did not move, and what is out of reach
+
+others-stand : (old new : State) → NothingElseMoved old new → OthersStand old new
+others-stand old new e =
+    subst (OthersStand old) (sym e) (record {
+      features = refl;
+      ns = refl;
+      eel2 = refl;
+      ecven = refl;
+      e2h = refl;
+      tge = refl;
+      cnthctl = refl;
+      cntvoff = refl;
+      cntpoff = refl;
+      timers = λ u. get-put-other (old .timers) Cntv u (new .timers .cntv);
+    })
+
+module _ (s : State) (a : Access) (g : TrappedGuest s) (low : (a .level ≡ EL0) ⊎ (a .level ≡ EL1)) where
+  reaches-its-own : (target : Target) → Permitted s a target → OwnOnly (Reaches target)
+  reaches-its-own target p =
+      subst OwnOnly (p .verdict) (own-only (factsOf s (a .level)) (guest-facts s (a .level) low g) (p .name) (isMrs (a .word)))
+
+  out-of-reach : OutOfReach s a
+  out-of-reach = record { cnthctl = reaches-its-own Target.Cnthctl; cntpoff = reaches-its-own Target.Cntpoff }
+
 pub guest-claim : GuestClaim
-guest-claim = record { oneAccess = one-access; anySequence = any-sequence accessOf one-access }
+guest-claim =
+    record {
+      oneAccess = one-access;
+      anySequence = any-sequence accessOf one-access;
+      others = others-stand;
+      outOfReach = out-of-reach;
+    }

@@ -1,13 +1,13 @@
 -- The lease. A permitted write to CNTV leaves the state with CNTV written at the virtual count, so the two writes of a lease
--- leave CNTV as the laws of one timer say; and the CNTV line is a matter of features, controls, CNTV and the virtual count,
--- which no other access moves.
+-- leave CNTV as the laws of one timer say; and the CNTV line is a matter of CNTV, the virtual count and whether 5 holds, which
+-- no other access moves.
 -- Assumes nothing.
 use Prim.Native.Nat.{ℕ, _+_, _-_, _^_}
-use mathlib.Core.Bool.{Bool, true, false, cond, _||_}
+use mathlib.Core.Bool.{Bool, true, false, cond}
 use mathlib.Core.List.{List, [], _∷_}
 use mathlib.Core.Logic.{⊎-elim}
 use mathlib.Core.Path.{_≡_, refl, sym, ap, ap₂, subst, _∙_}
-use lib.Dec.{ltb, leb}
+use lib.Dec.{leb}
 use native.Mathlib.Omega.{arith}
 use borrow.Author.Tests.{le-leb, lt-leb}
 use Rattle.rules.specs.declared.access.Access.{Access}
@@ -22,7 +22,7 @@ use Rattle.rules.specs.declared.state.Timer.{Timer}
 use Rattle.rules.specs.declared.state.TimerName.{TimerName}
 use Rattle.rules.specs.declared.state.TimerName.the-variants.{Cntv}
 use Rattle.rules.specs.declared.verdict.Target.{Target}
-use Rattle.rules.specs.Words.{EL3, offsetOn, factsOf}
+use Rattle.rules.specs.Words.{offsetOn, factsOf}
 use Rattle.rules.specs.Names.{writtenOperand}
 use Rattle.rules.specs.Arithmetic.{_plus_, signed32}
 use Rattle.rules.specs.Timers.{same, timerOf, put}
@@ -30,17 +30,18 @@ use Rattle.rules.specs.States.{withTimers}
 use Rattle.rules.specs.Counts.{offsetSeen}
 use Rattle.rules.specs.Values.{raised, readTimer, writeTimer, readOf, writeOf}
 use Rattle.rules.specs.Answers.{doneRead}
-use Rattle.rules.specs.Context.{impossible, impossibleAt}
+use Rattle.rules.specs.Context.{impossible}
 use Rattle.rules.specs.Access.{accessOf}
 use Rattle.rules.specs.Lines.{lineOf, linesOf}
 use Rattle.rules.proofs.Timers.{get-put-other}
 use Rattle.rules.proofs.Lease.{value-then-control, control-then-value, raised-at, masked-line, status-at, cntv-count, ahead-from, ahead-wraps, back-from, back-wraps, left-at, left-ahead, left-over, left-back, small-signed, large-signed}
 use Rattle.claims.specs.Desk.{endState, Permitted, PermittedWrite, PermittedRead}
-use Rattle.claims.specs.Guests.{Alike, SequencesAlike}
+use Rattle.claims.specs.Guests.{Own, Alike, SequencesAlike}
 use Rattle.claims.specs.Lease.{virtualAt, lineAt, deadlineOf, Lease, Takes, Armed, Renewed, GivenBack, MaskedIsSilent, EndsAtTheDeadline, UpFrom, NotEarlyNotLate, OfTheLease, SameLease, LeftAlone, ticksLeft, TvalTellsTheTruth, ByTheGuestAlone, LeaseKept, LeaseClaim}
+use Rattle.claims.proofs.Contexts.{contexts-stand}
 use Rattle.claims.proofs.Guests.{machine, alike-still, any-sequence, one-access}
 use Rattle.claims.proofs.Kept.{all-keep}
-use Rattle.claims.proofs.Ways.{whatever-timers}
+use Rattle.claims.proofs.Ways.{whatever-timers, possible}
 use Rattle.claims.proofs.Writes.{timer-written, reads-give}
 
 -- ---- 1. Armed
@@ -50,16 +51,6 @@ cntv-written : (s : State) (a : Access) (p : Part) → PermittedWrite s a (Targe
 cntv-written s a p w =
     timer-written s a Cntv p w
     ∙ ap (λ (v : ℕ). withTimers s (put (s .timers) Cntv (writeTimer (s .timers .cntv) p v (writtenOperand a)))) (cntv-count (offsetSeen (factsOf s (a .level))) s (a .count))
-
--- what was permitted was on a machine that can be
-second-of-four : (a b c d : Bool) → a || b || c || d ≡ false → b ≡ false
-second-of-four true true c d e = e
-second-of-four false true c d e = e
-second-of-four a false c d e = refl
-
-possible : {s : State} {a : Access} {target : Target} → Permitted s a target → impossible s ≡ false
-unfolding impossibleAt
-possible {s} {a} {target} p = second-of-four (ltb EL3 (a .level)) (impossible s) _ _ (p .possible)
 
 module _ (s : State) (a : Access) where
   abbrev next : State
@@ -182,49 +173,32 @@ not-early-not-late s v x fits lease =
 
 -- ---- 3. Left alone
 
-module _ (s t : State) (alike : Alike s t) where
-  impossible-alike : impossible s ≡ impossible t
-  unfolding impossible
-  impossible-alike =
-      ap₂ (λ (f : Features) (c : Controls). impossible (machine f c s)) (alike .features) (alike .controls)
-
-  -- machines alike have the same lease
+-- 5 on both or on neither, and the same CNTV: the same lease
+module _ (s t : State) (contexts : impossible s ≡ impossible t) (cntv : s .timers .cntv ≡ t .timers .cntv) where
   same-lease : SameLease s t
   same-lease =
       record {
-        timer = alike .own;
-        deadline = λ d lease. record { possible = sym impossible-alike ∙ lease .possible; cntv = sym (alike .own) ∙ lease .cntv };
-        line = λ p q same. line-is s p ∙ rw (impossible-alike, alike .own, same) (sym (line-is t q));
+        timer = cntv;
+        deadline = λ d lease. record { possible = sym contexts ∙ lease .possible; cntv = sym cntv ∙ lease .cntv };
+        line = λ p q same. line-is s p ∙ rw (contexts, cntv, same) (sym (line-is t q));
       }
 
 -- what a lease stands on is as it was
 record Kept (old new : State) : Type 0 where
-  alike : Alike old new
+  cntv : new .timers .cntv ≡ old .timers .cntv
   cntvoff : new .cntvoff ≡ old .cntvoff
 
 kept-here : (s : State) → Kept s s
-kept-here s = record { alike = record { features = refl; controls = refl; own = refl }; cntvoff = refl }
+kept-here s = record { cntv = refl; cntvoff = refl }
 
 kept-on : (s m n : State) → Kept s m → Kept m n → Kept s n
-kept-on s m n p q =
-    record {
-      alike = record {
-        features = p .alike .features ∙ q .alike .features;
-        controls = p .alike .controls ∙ q .alike .controls;
-        own = p .alike .own ∙ q .alike .own;
-      };
-      cntvoff = q .cntvoff ∙ p .cntvoff;
-    }
+kept-on s m n p q = record { cntv = q .cntv ∙ p .cntv; cntvoff = q .cntvoff ∙ p .cntvoff }
 
 -- a write to another timer, once over that timer
 by-timer : (f : Facts) (s : State) (count : ℕ) (t : TimerName) (p : Part) (x : ℕ) → (b : Bool) → same t Cntv ≡ b → (same t Cntv ≡ true → ⊥) → Kept s (writeOf f s count (Target.Timer t p) x)
 unfolding writeOf
 by-timer f s count t p x true e not-it = absurd (not-it e)
-by-timer f s count t p x false e not-it =
-    record {
-      alike = record { features = refl; controls = refl; own = sym (get-put-other (s .timers) t Cntv _ e) };
-      cntvoff = refl;
-    }
+by-timer f s count t p x false e not-it = record { cntv = get-put-other (s .timers) t Cntv _ e; cntvoff = refl }
 
 elsewhere : (f : Facts) (s : State) (count : ℕ) (target : Target) (x : ℕ) → (OfTheLease target → ⊥) → Kept s (writeOf f s count target x)
 unfolding writeOf
@@ -232,11 +206,15 @@ elsewhere f s count Target.Cntpct x not-it = kept-here s
 elsewhere f s count Target.Cntvct x not-it = kept-here s
 elsewhere f s count Target.Cntvoff x not-it = absurd (not-it tt)
 elsewhere f s count (Target.Timer t p) x not-it = by-timer f s count t p x (same t Cntv) refl not-it
+elsewhere f s count Target.Cntkctl x not-it = record { cntv = refl; cntvoff = refl }
+elsewhere f s count Target.Cnthctl x not-it = record { cntv = refl; cntvoff = refl }
+elsewhere f s count Target.Cntpoff x not-it = record { cntv = refl; cntvoff = refl }
 
 left-alone : LeftAlone
 left-alone s accesses none =
-    let kept : Kept s (endState accessOf s accesses) = all-keep OfTheLease Kept kept-here kept-on elsewhere s accesses none in
-    (kept .cntvoff, same-lease s (endState accessOf s accesses) (kept .alike))
+    let end : State = endState accessOf s accesses in
+    let kept : Kept s end = all-keep OfTheLease Kept kept-here kept-on elsewhere s accesses none in
+    (kept .cntvoff, same-lease s end (sym (contexts-stand s accesses .lines)) (sym (kept .cntv)))
 
 -- ---- 4. TVAL tells the truth
 
@@ -253,12 +231,18 @@ tval-tells-the-truth =
 
 -- ---- 5. By the guest alone
 
+impossible-alike : (s t : State) → Alike s t → impossible s ≡ impossible t
+unfolding impossible
+impossible-alike s t alike =
+    ap₂ (λ (f : Features) (c : Controls). impossible (machine f c s)) (alike .features) (alike .controls)
+
 by-the-guest-alone : ByTheGuestAlone
 by-the-guest-alone s t as₁ as₂ guest alike shown =
     let end : SequencesAlike accessOf s t as₁ as₂ = any-sequence accessOf one-access s t as₁ as₂ guest alike shown in
     let m : State = endState accessOf s as₁ in
     let n : State = endState accessOf t as₂ in
-    same-lease m n (alike-still s t m n (end .states) alike)
+    let again : Alike m n = alike-still s t m n (end .states) alike in
+    same-lease m n (impossible-alike m n again) (ap (λ (x : Own). x .cntv) (again .own))
 
 -- ---- the claim
 

@@ -1,4 +1,6 @@
 -- The proofs of what specs/ states.
+pub mod Contexts
+pub mod Controls
 pub mod GuestGates
 pub mod Grounds
 pub mod Guests

@@ -4,6 +4,7 @@
 use Prim.Native.Nat.{ℕ, _*_, _/_, _%_, _<_, _≤_}
 use mathlib.Core.Bool.{Bool, true, false}
 use mathlib.Core.List.{List}
+use mathlib.Core.Logic.{_⊎_, inl, inr, ⊎-elim}
 use mathlib.Core.Path.{_≡_, refl}
 use native.Mathlib.Omega.{arith}
 use lib.Dec.{eqb}
@@ -17,7 +18,7 @@ use Rattle.rules.specs.declared.name.Name.{Name}
 use Rattle.rules.specs.declared.state.State.{State}
 use Rattle.rules.specs.declared.verdict.Target.{Target}
 use Rattle.rules.specs.declared.verdict.Verdict.{Verdict}
-use Rattle.rules.specs.declared.verdict.Verdict.the-variants.{Undefined, ToEl1, ToEl2, Reaches}
+use Rattle.rules.specs.declared.verdict.Verdict.the-variants.{Undefined, ToEl1, ToEl2, ToEl3, Reaches}
 use Rattle.rules.specs.Words.{factsOf}
 use Rattle.rules.specs.Names.{nameOf, isMrs, rtOf}
 use Rattle.rules.specs.Verdicts.{verdictOf}
@@ -29,41 +30,49 @@ use Rattle.claims.specs.Numbers.{AnswerFor, EachAnswer, EachRecord, RunG
 
 -- ---- an access
 
--- an answer of value and mask 0
-empty : (word number rt : ℕ) → number ≤ 5 → (number ≤ 3 → rt ≡ rtOf word) → (4 ≤ number → rt ≡ 0) → AnswerFor word (answer number rt 0 0)
-empty word number rt upTo5 upTo3 from4 =
+-- an answer of value and mask 0: with the word's Rt, of a number that is no refusal, or with Rt 0
+stopped : (word number : ℕ) → (number ≤ 3) ⊎ (number ≡ 10) → AnswerFor word (answer number (rtOf word) 0 0)
+stopped word number h =
     record {
-      upTo5 = upTo5;
-      upTo3 = λ h. upTo3 (omega arith);
-      from4 = λ h. from4 (omega arith);
-      notDone = λ h. (refl, refl);
-      written = λ h. (refl, refl);
+      upTo5Or10 = ⊎-elim (λ l. inl (omega arith)) inr h;
+      upTo3 = λ _. refl;
+      refused = λ g k. ⊎-elim (λ l. absurd (omega arith)) (λ e. absurd (omega arith)) h;
+      ten = λ _. refl;
+      notDone = λ _. (refl, refl);
+      written = λ _. (refl, refl);
     }
 
-stopped : (word number : ℕ) → number ≤ 3 → AnswerFor word (answer number (rtOf word) 0 0)
-stopped word number h = empty word number (rtOf word) (omega arith) (λ g. refl) (λ g. omega arith)
-
 refusal : (word number : ℕ) → 4 ≤ number → number ≤ 5 → AnswerFor word (refused number)
-refusal word number h k = empty word number 0 k (λ g. omega arith) (λ g. refl)
+refusal word number h k =
+    record {
+      upTo5Or10 = inl k;
+      upTo3 = λ g. absurd (omega arith);
+      refused = λ _ _. refl;
+      ten = λ g. absurd (omega arith);
+      notDone = λ _. (refl, refl);
+      written = λ _. (refl, refl);
+    }
 
 module _ (f : Facts) (s : State) (a : Access) where
   done : (target : Target) (b : Bool) → isMrs (a .word) ≡ b → AnswerFor (a .word) (permitted f s a target .answer)
   unfolding permitted
   done target true e =
       rw e (record {
-        upTo5 = omega arith;
+        upTo5Or10 = inl (omega arith);
         upTo3 = λ h. refl;
-        from4 = λ h. omega arith;
+        refused = λ h k. omega arith;
+        ten = λ h. refl;
         notDone = λ h. omega arith;
         written = λ h. let no : _≡_ {A = ℕ} 0 1 = cc in omega arith;
       })
-  done target false e = rw e (stopped (a .word) 0 (omega arith))
+  done target false e = rw e (stopped (a .word) 0 (inl (omega arith)))
 
   by-verdict : (v : Verdict) → AnswerFor (a .word) (ruled f s a v .answer)
   unfolding ruled
-  by-verdict Undefined = stopped (a .word) 1 (omega arith)
-  by-verdict ToEl1 = stopped (a .word) 2 (omega arith)
-  by-verdict ToEl2 = stopped (a .word) 3 (omega arith)
+  by-verdict Undefined = stopped (a .word) 1 (inl (omega arith))
+  by-verdict ToEl1 = stopped (a .word) 2 (inl (omega arith))
+  by-verdict ToEl2 = stopped (a .word) 3 (inl (omega arith))
+  by-verdict ToEl3 = stopped (a .word) 10 (inr refl)
   by-verdict (Reaches target) = done target (isMrs (a .word)) refl
 
 module _ (s : State) (a : Access) where

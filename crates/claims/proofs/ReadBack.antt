@@ -9,14 +9,14 @@ use native.Mathlib.Omega.{arith}
 use Rattle.rules.specs.declared.access.Access.{Access}
 use Rattle.rules.specs.declared.answer.Value.{Value}
 use Rattle.rules.specs.declared.name.Name.{Name}
-use Rattle.rules.specs.declared.name.Name.the-variants.{Cntpct, Cntvct, Cntpctss, Cntvctss, Cntp, Cntv, Cntvoff, Cnthp, Cnthvs}
+use Rattle.rules.specs.declared.name.Name.the-variants.{Cntpct, Cntvct, Cntpctss, Cntvctss, Cntp, Cntv, Cntvoff, Cnthp, Cnthvs, Cntkctl, Cnthctl, Cntpoff}
 use Rattle.rules.specs.declared.name.Part.{Part}
 use Rattle.rules.specs.declared.name.Part.the-variants.{Tval, Ctl, Cval}
 use Rattle.rules.specs.declared.state.Timer.{Timer}
 use Rattle.rules.specs.declared.state.Timers.{Timers}
 use Rattle.rules.specs.declared.verdict.Target.{Target}
 use Rattle.rules.specs.declared.verdict.Verdict.{Verdict}
-use Rattle.rules.specs.declared.verdict.Verdict.the-variants.{Undefined, ToEl1, ToEl2, Reaches}
+use Rattle.rules.specs.declared.verdict.Verdict.the-variants.{Undefined, ToEl1, ToEl2, ToEl3, Reaches}
 use Rattle.rules.specs.Verdicts.{verdictOf}
 use Rattle.rules.specs.Words.{factsOf}
 use Rattle.rules.specs.Names.{isMrs, writtenOperand}
@@ -154,6 +154,9 @@ module _ (t : TimerName) where
   elsewhere f s count (Target.Timer u Ctl) x not-it =
       (refl, part-kept (s .timers) (λ (y : Timer). y .cval) u t (writeCtl (get (s .timers) u) x) refl)
   elsewhere f s count (Target.Timer u Cval) x not-it = other-timer s u _ (same u t) refl not-it
+  elsewhere f s count Target.Cntkctl x not-it = absurd (not-it tt)
+  elsewhere f s count Target.Cnthctl x not-it = absurd (not-it tt)
+  elsewhere f s count Target.Cntpoff x not-it = absurd (not-it tt)
 
 pub left-as-written : LeftAsWritten
 left-as-written s accesses t none =
@@ -183,6 +186,7 @@ abbrev TvalAlone : Verdict → Type 0
 TvalAlone Undefined = Unit {0}
 TvalAlone ToEl1 = Unit {0}
 TvalAlone ToEl2 = Unit {0}
+TvalAlone ToEl3 = Unit {0}
 TvalAlone (Reaches target) = (t : TimerName) × (target ≡ Target.Timer t Tval)
 
 -- a law of TVAL registers is one for each family of timers that has a name
@@ -204,6 +208,9 @@ tval-names P p v hp hvs (Cnthp Cval) h = absurd h
 tval-names P p v hp hvs (Cnthvs Tval) h = hvs
 tval-names P p v hp hvs (Cnthvs Ctl) h = absurd h
 tval-names P p v hp hvs (Cnthvs Cval) h = absurd h
+tval-names P p v hp hvs Cntkctl h = absurd h
+tval-names P p v hp hvs Cnthctl h = absurd h
+tval-names P p v hp hvs Cntpoff h = absurd h
 
 module _ (f : Facts) (name : Name) (has : HasTval name) where
   tval-alone : (mrs : Bool) → TvalAlone (verdictOf f name mrs)

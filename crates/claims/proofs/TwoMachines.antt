@@ -2,7 +2,7 @@
 -- Assumes nothing.
 use Prim.Native.Nat.{ℕ}
 use mathlib.Core.Bool.{true, false}
-use mathlib.Core.Logic.{inr}
+use mathlib.Core.Logic.{inl, inr}
 use mathlib.Core.Path.{_≡_, refl, ap}
 use native.Mathlib.Omega.{arith}
 use Rattle.rules.specs.declared.state.Timer.{Timer}
@@ -12,9 +12,11 @@ use Rattle.rules.specs.Words.{factsOf}
 use Rattle.rules.specs.Names.{nameOf, nameTable}
 use Rattle.rules.specs.Cntv.{cntv}
 use Rattle.rules.specs.Counters.{cntvct}
+use Rattle.rules.specs.Control.{cntkctl}
 use Rattle.rules.specs.Verdicts.{verdictOf}
 use Rattle.rules.specs.Timers.{same, timerOf, get}
 use Rattle.rules.specs.Counts.{countOf}
+use Rattle.rules.specs.Stored.{cntkctlFields, storedCntkctl}
 use Rattle.rules.specs.Values.{readTimer, writeTimer, readOf, writeOf}
 use Rattle.rules.specs.Context.{impossible, impossibleAt}
 use Rattle.rules.specs.Access.{permitted, ruled, served, accessOf}
@@ -33,20 +35,23 @@ each-differs Cnthps e h = differ h
 each-differs Cnthvs e h = differ h
 
 pub two-machines : TwoMachines
-unfolding factsOf nameOf nameTable cntv cntvct verdictOf countOf readTimer writeTimer readOf writeOf impossible impossibleAt permitted ruled served accessOf
+unfolding factsOf nameOf nameTable cntv cntvct cntkctl verdictOf countOf cntkctlFields storedCntkctl readTimer writeTimer readOf writeOf impossible impossibleAt permitted ruled served accessOf
 two-machines =
     record {
       guest = record { guest = record { nonsecure = refl; tge0 = refl }; trapped = refl };
       alike = record { features = refl; controls = refl; own = refl };
       shown = (
         record { el0OrEl1 = inr refl; same = refl },
-        (record { el0OrEl1 = inr refl; same = refl }, tt),
+        (
+          record { el0OrEl1 = inr refl; same = refl },
+          (record { el0OrEl1 = inr refl; same = refl }, (record { el0OrEl1 = inl refl; same = refl }, tt)),
+        ),
       );
       cntvoff = λ (e : _≡_ {A = ℕ} 400 0). omega arith;
       cntpoff = λ (e : _≡_ {A = ℕ} 0 7). omega arith;
       others = each-differs;
       here = refl;
       there = refl;
-      cntvHere = refl;
-      cntvThere = refl;
+      ownHere = refl;
+      ownThere = refl;
     }

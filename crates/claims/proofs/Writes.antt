@@ -9,7 +9,7 @@ use Rattle.rules.specs.declared.access.Access.{Access}
 use Rattle.rules.specs.declared.answer.Outcome.{Outcome}
 use Rattle.rules.specs.declared.facts.Facts.{Facts}
 use Rattle.rules.specs.declared.name.Name.{Name}
-use Rattle.rules.specs.declared.name.Name.the-variants.{Cntpct, Cntvct, Cntpctss, Cntvctss, Cntp, Cntv, Cntvoff, Cnthp, Cnthvs}
+use Rattle.rules.specs.declared.name.Name.the-variants.{Cntpct, Cntvct, Cntpctss, Cntvctss, Cntp, Cntv, Cntvoff, Cnthp, Cnthvs, Cntkctl, Cnthctl, Cntpoff}
 use Rattle.rules.specs.declared.name.Part.{Part}
 use Rattle.rules.specs.declared.name.Part.the-variants.{Tval, Ctl, Cval}
 use Rattle.rules.specs.declared.state.State.{State}
@@ -17,7 +17,7 @@ use Rattle.rules.specs.declared.state.Timer.{Timer}
 use Rattle.rules.specs.declared.state.TimerName.{TimerName}
 use Rattle.rules.specs.declared.verdict.Target.{Target}
 use Rattle.rules.specs.declared.verdict.Verdict.{Verdict}
-use Rattle.rules.specs.declared.verdict.Verdict.the-variants.{Undefined, ToEl1, ToEl2, Reaches}
+use Rattle.rules.specs.declared.verdict.Verdict.the-variants.{Undefined, ToEl1, ToEl2, ToEl3, Reaches}
 use Rattle.rules.specs.Words.{factsOf}
 use Rattle.rules.specs.Names.{writtenOperand}
 use Rattle.rules.specs.El2.{cntvoff}
@@ -28,7 +28,7 @@ use Rattle.rules.specs.Values.{writeTimer, writeOf}
 use Rattle.rules.specs.Verdicts.{verdictOf}
 use Rattle.rules.specs.Access.{permitted, accessOf}
 use Rattle.rules.proofs.Rules.{at-level-holds}
-use Rattle.rules.proofs.Verdicts.{cntp-holds, cntv-holds, cnthp-holds, cnthvs-holds}
+use Rattle.rules.proofs.Verdicts.{cntp-holds, cntv-holds, cnthp-holds, cnthvs-holds, cntkctl-holds, cnthctl-holds, cntpoff-holds}
 use Rattle.rules.proofs.Timers.{get-put-same}
 use Rattle.claims.specs.Desk.{PermittedWrite}
 use Rattle.claims.specs.Writes.{OnePart, OneRegister, WritesChangeOne, ReadsGive, DoneIsPermitted}
@@ -40,10 +40,14 @@ abbrev Writable : Verdict → Type 0
 Writable Undefined = Unit {0}
 Writable ToEl1 = Unit {0}
 Writable ToEl2 = Unit {0}
+Writable ToEl3 = Unit {0}
 Writable (Reaches Target.Cntpct) = ⊥
 Writable (Reaches Target.Cntvct) = ⊥
 Writable (Reaches Target.Cntvoff) = Unit {0}
 Writable (Reaches (Target.Timer t p)) = Unit {0}
+Writable (Reaches Target.Cntkctl) = Unit {0}
+Writable (Reaches Target.Cnthctl) = Unit {0}
+Writable (Reaches Target.Cntpoff) = Unit {0}
 
 cntvoff-writable : (f : Facts) → Writable (cntvoff f)
 unfolding cntvoff
@@ -61,6 +65,9 @@ msr-writable f (Cntv p) = cntv-holds Writable p tt tt tt (λ _. tt) f
 msr-writable f Cntvoff = cntvoff-writable f
 msr-writable f (Cnthp p) = cnthp-holds Writable p tt tt tt (λ _. tt) f
 msr-writable f (Cnthvs p) = cnthvs-holds Writable p tt tt tt (λ _. tt) f
+msr-writable f Cntkctl = cntkctl-holds Writable tt tt tt f
+msr-writable f Cnthctl = cnthctl-holds Writable tt tt f
+msr-writable f Cntpoff = cntpoff-holds Writable tt tt tt f
 
 permitted-writable : {s : State} {a : Access} {target : Target} → PermittedWrite s a target → Writable (Reaches target)
 permitted-writable {s} {a} {target} w =
@@ -79,6 +86,9 @@ unfolding writeOf
 one-register f s count Target.Cntpct x w = w
 one-register f s count Target.Cntvct x w = w
 one-register f s count Target.Cntvoff x w = refl
+one-register f s count Target.Cntkctl x w = refl
+one-register f s count Target.Cnthctl x w = refl
+one-register f s count Target.Cntpoff x w = refl
 one-register f s count (Target.Timer t p) x w =
     let old : Timer = get (s .timers) t in
     let new : Timer = writeTimer old p (usedCount f s count t) x in

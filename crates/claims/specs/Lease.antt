@@ -12,7 +12,7 @@ use Rattle.rules.specs.declared.name.Part.the-variants.{Tval, Ctl}
 use Rattle.rules.specs.declared.state.State.{State}
 use Rattle.rules.specs.declared.state.TimerName.the-variants.{Cntv}
 use Rattle.rules.specs.declared.verdict.Target.{Target}
-use Rattle.rules.specs.declared.verdict.Target.the-variants.{Cntpct, Cntvct, Cntvoff, Timer}
+use Rattle.rules.specs.declared.verdict.Target.the-variants.{Cntpct, Cntvct, Cntvoff, Timer, Cntkctl, Cnthctl, Cntpoff}
 use Rattle.rules.specs.Bits.{bit}
 use Rattle.rules.specs.Names.{writtenOperand}
 use Rattle.rules.specs.Arithmetic.{_plus_, _less_, signed32}
@@ -133,12 +133,15 @@ NotEarlyNotLate = (s : State) (v x : ℕ) → v < 2 ^ 64 → Lease s (v plus sig
 
 -- ---- 3. Left alone
 
--- the registers that a lease stands on: CNTV's, and CNTVOFF
+-- the registers that a lease stands on: CNTV's, and CNTVOFF. A write of CNTKCTL, CNTHCTL or CNTPOFF moves no lease
 abbrev pub OfTheLease : Target → Type 0
 OfTheLease Cntpct = ⊥
 OfTheLease Cntvct = ⊥
 OfTheLease Cntvoff = Unit {0}
 OfTheLease (Timer t p) = same t Cntv ≡ true
+OfTheLease Cntkctl = ⊥
+OfTheLease Cnthctl = ⊥
+OfTheLease Cntpoff = ⊥
 
 -- the same lease: the timer as it is, so a deadline stands, and at each virtual count the same line
 pub record SameLease (s t : State) : Type 0 where

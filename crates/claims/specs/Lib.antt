@@ -3,9 +3,11 @@ pub mod Desk
 pub mod Refusals
 pub mod Numbers
 pub mod Grounds
+pub mod Contexts
 pub mod Offset
 pub mod Writes
 pub mod ReadBack
+pub mod Controls
 pub mod Guests
 pub mod Journals
 pub mod TwoMachines

@@ -3,6 +3,7 @@
 use Prim.Native.Nat.{ℕ, _*_, _%_, _<_, _≤_}
 use mathlib.Core.Bool.{false}
 use mathlib.Core.List.{List}
+use mathlib.Core.Logic.{_⊎_}
 use mathlib.Core.Path.{_≡_}
 use lib.ListN.{length}
 use Rattle.rules.specs.declared.access.Access.{Access}
@@ -17,11 +18,13 @@ use Rattle.rules.specs.Journal.{recordServed, runOf}
 abbrev pub Empty : Answer → Type 0
 Empty a = (a .value ≡ 0) × (a .mask ≡ 0)
 
--- an access gets 0 to 5: 0 to 3 with the word's Rt, 4 and 5 with Rt 0; value and mask are 0 but for a read that is done
+-- an access gets 0 to 5, or 10: 0 to 3 and 10 with the word's Rt, 4 and 5 with Rt 0; value and mask are 0 but for a read that is
+-- done
 pub record AnswerFor (word : ℕ) (a : Answer) : Type 0 where
-  pub upTo5 : a .number ≤ 5
+  pub upTo5Or10 : (a .number ≤ 5) ⊎ (a .number ≡ 10)
   pub upTo3 : a .number ≤ 3 → a .rt ≡ rtOf word
-  pub from4 : 4 ≤ a .number → a .rt ≡ 0
+  pub refused : 4 ≤ a .number → a .number ≤ 5 → a .rt ≡ 0
+  pub ten : a .number ≡ 10 → a .rt ≡ rtOf word
   pub notDone : 1 ≤ a .number → Empty a
   pub written : isMrs word ≡ false → Empty a
 

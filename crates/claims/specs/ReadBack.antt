@@ -7,7 +7,7 @@ use Rattle.rules.specs.declared.access.Access.{Access}
 use Rattle.rules.specs.declared.answer.Value.{Value}
 use Rattle.rules.specs.declared.name.Lookup.{Lookup}
 use Rattle.rules.specs.declared.name.Name.{Name}
-use Rattle.rules.specs.declared.name.Name.the-variants.{Cntpct, Cntvct, Cntpctss, Cntvctss, Cntp, Cntv, Cntvoff, Cnthp, Cnthvs}
+use Rattle.rules.specs.declared.name.Name.the-variants.{Cntpct, Cntvct, Cntpctss, Cntvctss, Cntp, Cntv, Cntvoff, Cnthp, Cnthvs, Cntkctl, Cnthctl, Cntpoff}
 use Rattle.rules.specs.declared.name.Part.{Part}
 use Rattle.rules.specs.declared.name.Part.the-variants.{Tval, Ctl, Cval}
 use Rattle.rules.specs.declared.state.State.{State}
@@ -65,8 +65,8 @@ TvalReadsBack =
     (accessOf (endState accessOf s (w ∷ between)) r .answer ≡ doneRead (r .word) v) ×
     ReadsLow v (writtenOperand w)
 
--- the registers that what was written hangs on: CNTVOFF, and of the timer itself TVAL and CVAL. CTL is not among them, so the
--- timer may be enabled after the write
+-- the registers that what was written hangs on: those of the context, and of the timer itself TVAL and CVAL. CTL is not among
+-- them, so the timer may be enabled after the write
 abbrev pub Holds : TimerName → Target → Type 0
 Holds t Target.Cntpct = ⊥
 Holds t Target.Cntvct = ⊥
@@ -74,6 +74,9 @@ Holds t Target.Cntvoff = Unit {0}
 Holds t (Target.Timer u Tval) = same u t ≡ true
 Holds t (Target.Timer u Ctl) = ⊥
 Holds t (Target.Timer u Cval) = same u t ≡ true
+Holds t Target.Cntkctl = Unit {0}
+Holds t Target.Cnthctl = Unit {0}
+Holds t Target.Cntpoff = Unit {0}
 
 -- accesses of which none is a permitted write that reaches one of these leave the context and that CVAL
 abbrev pub LeftAsWritten : Type 0
@@ -111,6 +114,9 @@ HasTval (Cntv p) = IsTval p
 HasTval Cntvoff = ⊥
 HasTval (Cnthp p) = IsTval p
 HasTval (Cnthvs p) = IsTval p
+HasTval Cntkctl = ⊥
+HasTval Cnthctl = ⊥
+HasTval Cntpoff = ⊥
 
 -- for every such name: where a write is permitted, so is a read at the same level in the same context, and it reaches the
 -- TVAL of the same timer

@@ -7,11 +7,11 @@ use Rattle.rules.specs.declared.name.Part.the-variants.{Tval, Ctl, Cval}
 use Rattle.rules.specs.declared.state.State.{State}
 use Rattle.rules.specs.declared.state.Timer.{Timer}
 use Rattle.rules.specs.declared.verdict.Target.{Target}
-use Rattle.rules.specs.declared.verdict.Target.the-variants.{Cntpct, Cntvct, Cntvoff}
+use Rattle.rules.specs.declared.verdict.Target.the-variants.{Cntpct, Cntvct, Cntvoff, Cntkctl, Cnthctl, Cntpoff}
 use Rattle.rules.specs.Words.{factsOf}
 use Rattle.rules.specs.Names.{writtenOperand}
 use Rattle.rules.specs.Timers.{timerOf, get, put}
-use Rattle.rules.specs.States.{withTimers, withCntvoff}
+use Rattle.rules.specs.States.{withTimers, withCntvoff, withCntpoff, withCntkctl, withCnthctl}
 use Rattle.rules.specs.Values.{readOf, writeOf}
 use Rattle.rules.specs.Answers.{done, doneRead, doneWrite}
 use Rattle.rules.specs.Access.{accessOf}
@@ -30,6 +30,9 @@ OneRegister Cntvct old new = ⊥
 OneRegister Cntvoff old new = new ≡ withCntvoff old (new .cntvoff)
 OneRegister (Target.Timer t p) old new =
     (new ≡ withTimers old (put (old .timers) t (get (new .timers) t))) × OnePart p (get (old .timers) t) (get (new .timers) t)
+OneRegister Cntkctl old new = new ≡ withCntkctl old (new .controls .cntkctl)
+OneRegister Cnthctl old new = new ≡ withCnthctl old (new .controls .cnthctl)
+OneRegister Cntpoff old new = new ≡ withCntpoff old (new .cntpoff)
 
 -- what a permitted write comes to: 0, in the register that the verdict names what the value rules say, and no other changed
 pub record WritesOne (s : State) (a : Access) (target : Target) : Type 0 where

@@ -1,12 +1,15 @@
 // What the rulebook comes to: the customer's demands (RULES, 'The three demands'), and the lease that they are for, as
 // theorems over the definitions that the code is proved to equal. specs/ states them, proofs/ proves them.
 ghost use Rattle.rules.specs.Readings.{ReadingsHold};
+ghost use Rattle.rules.specs.Stored.{MasksHold};
 ghost use Rattle.claims.specs.Refusals.{RefusalsMoveNothing, RecordRefusalsMoveNothing, RunRefusalsMoveNothing, ReadsMoveNothing};
 ghost use Rattle.claims.specs.Numbers.{EachAnswer, EachRecord, EachRun};
 ghost use Rattle.claims.specs.Grounds.{FiveExactlyWhen};
+ghost use Rattle.claims.specs.Contexts.{NoWriteMakesFive};
 ghost use Rattle.claims.specs.Offset.{WhoSeesCntpoff};
 ghost use Rattle.claims.specs.Writes.{WritesChangeOne, ReadsGive, DoneIsPermitted};
 ghost use Rattle.claims.specs.ReadBack.{TimerReadsBack, TvalReadsBack, LeftAsWritten, EnabledAfterwards, ReadFollowsWrite};
+ghost use Rattle.claims.specs.Controls.{ControlsReadBack};
 ghost use Rattle.claims.specs.Guests.{GuestClaim};
 ghost use Rattle.claims.specs.Journals.{JournalClaim};
 ghost use Rattle.claims.specs.TwoMachines.{TwoMachines};
@@ -18,6 +21,7 @@ ghost use Rattle.claims.specs.Syndromes.{SyndromesAndWords};
 // It does nothing. Each claim is a line of its promise, since a theorem that no function needs can be taken out unseen.
 pub fn every_claim_holds()
     ensures { λ _. ⌜ ReadingsHold ⌝ }
+    ensures { λ _. ⌜ MasksHold ⌝ }
     ensures { λ _. ⌜ RefusalsMoveNothing ⌝ }
     ensures { λ _. ⌜ RecordRefusalsMoveNothing ⌝ }
     ensures { λ _. ⌜ RunRefusalsMoveNothing ⌝ }
@@ -26,6 +30,7 @@ pub fn every_claim_holds()
     ensures { λ _. ⌜ EachRecord ⌝ }
     ensures { λ _. ⌜ EachRun ⌝ }
     ensures { λ _. ⌜ FiveExactlyWhen ⌝ }
+    ensures { λ _. ⌜ NoWriteMakesFive ⌝ }
     ensures { λ _. ⌜ WhoSeesCntpoff ⌝ }
     ensures { λ _. ⌜ WritesChangeOne ⌝ }
     ensures { λ _. ⌜ ReadsGive ⌝ }
@@ -35,6 +40,7 @@ pub fn every_claim_holds()
     ensures { λ _. ⌜ LeftAsWritten ⌝ }
     ensures { λ _. ⌜ EnabledAfterwards ⌝ }
     ensures { λ _. ⌜ ReadFollowsWrite ⌝ }
+    ensures { λ _. ⌜ ControlsReadBack ⌝ }
     ensures { λ _. ⌜ GuestClaim ⌝ }
     ensures { λ _. ⌜ JournalClaim ⌝ }
     ensures { λ _. ⌜ TwoMachines ⌝ }

@@ -1,5 +1,5 @@
 -- What a timer's gate can say, once over the families: Undefined, a trap, or a register of some timer at the part that is
--- asked. So what holds of those holds of every such verdict.
+-- asked. So what holds of those holds of every such verdict. And what the gates of the control registers can say.
 -- Assumes nothing.
 use mathlib.Core.Bool.{Bool, cond, not, _&&_}
 use mathlib.Core.List.{[], _∷_}
@@ -7,12 +7,14 @@ use Rattle.rules.specs.declared.facts.Facts.{Facts}
 use Rattle.rules.specs.declared.name.Part.{Part}
 use Rattle.rules.specs.declared.state.TimerName.{TimerName}
 use Rattle.rules.specs.declared.state.TimerName.the-variants.{Cntp, Cntv, Cnthp, Cnthv, Cnthps, Cnthvs}
+use Rattle.rules.specs.declared.verdict.Target.the-variants.{Cntkctl, Cnthctl, Cntpoff}
 use Rattle.rules.specs.declared.verdict.Verdict.{Verdict}
-use Rattle.rules.specs.declared.verdict.Verdict.the-variants.{Undefined, ToEl1, ToEl2}
+use Rattle.rules.specs.declared.verdict.Verdict.the-variants.{Undefined, ToEl1, ToEl2, ToEl3, Reaches}
 use Rattle.rules.specs.Rules.{_⇒_, first, timer}
 use Rattle.rules.specs.Cntp.{denied, aToD, cntpEl0, cntpEl1, cntpEl2, cntpEl3, cntp}
 use Rattle.rules.specs.Cntv.{aToC, cntvEl0, cntvEl1, cntvEl2, cntvEl3, cntv}
 use Rattle.rules.specs.El2.{cnthp, cnthvs}
+use Rattle.rules.specs.Control.{cntkctl, cnthctl, cntpoff}
 use Rattle.rules.proofs.Rules.{cond-holds, first-holds, at-level-holds}
 
 module _ (P : Verdict → Type 0) (p : Part) (undefined : P Undefined) (one : P ToEl1) (two : P ToEl2) (reached : (t : TimerName) → P (timer t p)) where
@@ -65,3 +67,31 @@ module _ (P : Verdict → Type 0) (p : Part) (undefined : P Undefined) (one : P 
         undefined
         (undefined-or (not secure) own (reached Cnthvs))
         (undefined-or (not eel2) own (reached Cnthvs)))
+
+-- of a control register: itself, or for CNTKCTL also CNTHCTL; Undefined; for CNTPOFF a trap to EL3
+module _ (P : Verdict → Type 0) (undefined : P Undefined) where
+  module _ (itself : P (Reaches Cntkctl)) (redirected : P (Reaches Cnthctl)) (f : Facts) where
+    open Facts f using (level, e2h)
+
+    pub cntkctl-holds : P (cntkctl f)
+    unfolding cntkctl
+    cntkctl-holds =
+        at-level-holds P level Undefined (Reaches Cntkctl) (first (e2h ⇒ Reaches Cnthctl ∷ []) (Reaches Cntkctl)) (Reaches Cntkctl) undefined itself
+        (first-holds P (e2h ⇒ Reaches Cnthctl ∷ []) (Reaches Cntkctl) (redirected, tt) itself)
+        itself
+
+  pub cnthctl-holds : P (Reaches Cnthctl) → (f : Facts) → P (cnthctl f)
+  unfolding cnthctl
+  cnthctl-holds itself f =
+      at-level-holds P (f .level) Undefined Undefined (Reaches Cnthctl) (Reaches Cnthctl) undefined undefined itself itself
+
+  module _ (three : P ToEl3) (itself : P (Reaches Cntpoff)) (f : Facts) where
+    open Facts f using (level, ecv, ecven)
+
+    pub cntpoff-holds : P (cntpoff f)
+    unfolding cntpoff
+    cntpoff-holds =
+        first-holds P (not ecv ⇒ Undefined ∷ []) _ (undefined, tt)
+        (at-level-holds P level Undefined Undefined (first (not ecven ⇒ ToEl3 ∷ []) (Reaches Cntpoff)) (Reaches Cntpoff) undefined undefined
+        (first-holds P (not ecven ⇒ ToEl3 ∷ []) (Reaches Cntpoff) (three, tt) itself)
+        itself)

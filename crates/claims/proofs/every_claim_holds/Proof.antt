@@ -1,12 +1,15 @@
 -- Each claim by its own proof, in the order of the promise.
 -- Assumes nothing.
 use Rattle.rules.proofs.Readings.{readings-hold}
+use Rattle.rules.proofs.Stored.{masks-hold}
 use Rattle.claims.proofs.Refusals.{refusals-move-nothing, record-refusals-move-nothing, run-refusals-move-nothing, reads-move-nothing}
 use Rattle.claims.proofs.Numbers.{each-answer, each-record, each-run}
 use Rattle.claims.proofs.Grounds.{five-exactly-when}
+use Rattle.claims.proofs.Contexts.{no-write-makes-five}
 use Rattle.claims.proofs.Offset.{who-sees-cntpoff}
 use Rattle.claims.proofs.Writes.{writes-change-one, reads-give, done-is-permitted}
 use Rattle.claims.proofs.ReadBack.{timer-reads-back, tval-reads-back, left-as-written, enabled-afterwards, read-follows-write}
+use Rattle.claims.proofs.Controls.{controls-read-back}
 use Rattle.claims.proofs.Guests.{guest-claim}
 use Rattle.claims.proofs.Journals.{journal-claim}
 use Rattle.claims.proofs.TwoMachines.{two-machines}
@@ -24,6 +27,7 @@ a and b = (a, b)
 returns : tie.Need-returns
 returns c =
     readings-hold
+    and masks-hold
     and refusals-move-nothing
     and record-refusals-move-nothing
     and run-refusals-move-nothing
@@ -32,6 +36,7 @@ returns c =
     and each-record
     and each-run
     and five-exactly-when
+    and no-write-makes-five
     and who-sees-cntpoff
     and writes-change-one
     and reads-give
@@ -41,6 +46,7 @@ returns c =
     and left-as-written
     and enabled-afterwards
     and read-follows-write
+    and controls-read-back
     and guest-claim
     and journal-claim
     and two-machines

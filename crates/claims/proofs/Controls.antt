@@ -1,0 +1,75 @@
+-- What was written to a control register reads back: the write leaves in it what it stores, no other access moves it but a
+-- write of the register itself, and a read gives what the state holds.
+-- Assumes nothing.
+use Prim.Native.Nat.{ℕ}
+use mathlib.Core.List.{List, _∷_}
+use mathlib.Core.Path.{_≡_, refl, ap, _∙_}
+use Rattle.rules.specs.declared.access.Access.{Access}
+use Rattle.rules.specs.declared.facts.Facts.{Facts}
+use Rattle.rules.specs.declared.state.State.{State}
+use Rattle.rules.specs.declared.verdict.Target.{Target}
+use Rattle.rules.specs.declared.verdict.Target.the-variants.{Cntpct, Cntvct, Cntvoff, Timer, Cntkctl, Cnthctl, Cntpoff}
+use Rattle.rules.specs.Words.{factsOf}
+use Rattle.rules.specs.Names.{writtenOperand}
+use Rattle.rules.specs.Values.{known, readOf, writeOf}
+use Rattle.rules.specs.Answers.{doneRead}
+use Rattle.rules.specs.Access.{accessOf}
+use Rattle.claims.specs.Desk.{endState, PermittedWrite, PermittedRead, NoneReaches}
+use Rattle.claims.specs.Controls.{ReadsBack, ControlsReadBack}
+use Rattle.claims.proofs.Kept.{all-keep}
+use Rattle.claims.proofs.Writes.{writes-change-one, reads-give}
+
+-- once over the register: by what the state holds of it, what a read of it gives, and what a write of another leaves
+module _ (register : Target)
+    (held : State → ℕ)
+    (stored : State → ℕ → ℕ)
+    (read : (f : Facts) (s : State) (count : ℕ) → readOf f s count register ≡ known (held s))
+    (written : (s : State) (level count x : ℕ) → held (writeOf (factsOf s level) s count register x) ≡ stored s x)
+    (elsewhere : (f : Facts) (s : State) (count : ℕ) (target : Target) (x : ℕ) → (target ≡ register → ⊥) → held (writeOf f s count target x) ≡ held s) where
+  reads-back : ReadsBack register stored
+  reads-back s w between r write none read-r =
+      let next : State = accessOf s w .next in
+      let later : State = endState accessOf next between in
+      let taken : held next ≡ stored s (writtenOperand w) = ap held (writes-change-one s w register write .next) ∙ written s (w .level) (w .count) (writtenOperand w) in
+      let kept : held later ≡ held next = all-keep (λ target. target ≡ register) (λ old new. held new ≡ held old) (λ m. refl) (λ a b c p q. q ∙ p) elsewhere next between none in
+      reads-give later r register read-r
+      ∙ ap (doneRead (r .word)) (read (factsOf later (r .level)) later (r .count) ∙ ap known (kept ∙ taken))
+
+cntkctl-elsewhere : (f : Facts) (s : State) (count : ℕ) (target : Target) (x : ℕ) → (target ≡ Cntkctl → ⊥) → writeOf f s count target x .controls .cntkctl ≡ s .controls .cntkctl
+unfolding writeOf
+cntkctl-elsewhere f s count Cntpct x other = refl
+cntkctl-elsewhere f s count Cntvct x other = refl
+cntkctl-elsewhere f s count Cntvoff x other = refl
+cntkctl-elsewhere f s count (Timer t p) x other = refl
+cntkctl-elsewhere f s count Cntkctl x other = absurd (other refl)
+cntkctl-elsewhere f s count Cnthctl x other = refl
+cntkctl-elsewhere f s count Cntpoff x other = refl
+
+cnthctl-elsewhere : (f : Facts) (s : State) (count : ℕ) (target : Target) (x : ℕ) → (target ≡ Cnthctl → ⊥) → writeOf f s count target x .controls .cnthctl ≡ s .controls .cnthctl
+unfolding writeOf
+cnthctl-elsewhere f s count Cntpct x other = refl
+cnthctl-elsewhere f s count Cntvct x other = refl
+cnthctl-elsewhere f s count Cntvoff x other = refl
+cnthctl-elsewhere f s count (Timer t p) x other = refl
+cnthctl-elsewhere f s count Cntkctl x other = refl
+cnthctl-elsewhere f s count Cnthctl x other = absurd (other refl)
+cnthctl-elsewhere f s count Cntpoff x other = refl
+
+cntpoff-elsewhere : (f : Facts) (s : State) (count : ℕ) (target : Target) (x : ℕ) → (target ≡ Cntpoff → ⊥) → writeOf f s count target x .cntpoff ≡ s .cntpoff
+unfolding writeOf
+cntpoff-elsewhere f s count Cntpct x other = refl
+cntpoff-elsewhere f s count Cntvct x other = refl
+cntpoff-elsewhere f s count Cntvoff x other = refl
+cntpoff-elsewhere f s count (Timer t p) x other = refl
+cntpoff-elsewhere f s count Cntkctl x other = refl
+cntpoff-elsewhere f s count Cnthctl x other = refl
+cntpoff-elsewhere f s count Cntpoff x other = absurd (other refl)
+
+pub controls-read-back : ControlsReadBack
+unfolding factsOf readOf writeOf
+controls-read-back =
+    record {
+      cntkctl = reads-back Cntkctl (λ s. s .controls .cntkctl) _ (λ f s count. refl) (λ s level count x. refl) cntkctl-elsewhere;
+      cnthctl = reads-back Cnthctl (λ s. s .controls .cnthctl) _ (λ f s count. refl) (λ s level count x. refl) cnthctl-elsewhere;
+      cntpoff = reads-back Cntpoff (λ s. s .cntpoff) _ (λ f s count. refl) (λ s level count x. refl) cntpoff-elsewhere;
+    }
