@@ -7,6 +7,7 @@ pub mod Guests
 pub mod Impostors
 pub mod Journals
 pub mod Kept
+pub mod Kernel
 pub mod Lease
 pub mod LeaseExample
 pub mod Numbers
@@ -14,6 +15,7 @@ pub mod Offset
 pub mod ReadBack
 pub mod Refusals
 pub mod Syndromes
+pub mod Ten
 pub mod TwoMachines
 pub mod Ways
 pub mod Writes

@@ -4,10 +4,12 @@ pub mod Refusals
 pub mod Numbers
 pub mod Grounds
 pub mod Contexts
+pub mod Ten
 pub mod Offset
 pub mod Writes
 pub mod ReadBack
 pub mod Controls
+pub mod Kernel
 pub mod Guests
 pub mod Journals
 pub mod TwoMachines

@@ -6,10 +6,12 @@ ghost use Rattle.claims.specs.Refusals.{RefusalsMoveNothing, RecordRefus
 ghost use Rattle.claims.specs.Numbers.{EachAnswer, EachRecord, EachRun};
 ghost use Rattle.claims.specs.Grounds.{FiveExactlyWhen};
 ghost use Rattle.claims.specs.Contexts.{NoWriteMakesFive};
+ghost use Rattle.claims.specs.Ten.{TenExactlyWhen};
 ghost use Rattle.claims.specs.Offset.{WhoSeesCntpoff};
 ghost use Rattle.claims.specs.Writes.{WritesChangeOne, ReadsGive, DoneIsPermitted};
 ghost use Rattle.claims.specs.ReadBack.{TimerReadsBack, TvalReadsBack, LeftAsWritten, EnabledAfterwards, ReadFollowsWrite};
 ghost use Rattle.claims.specs.Controls.{ControlsReadBack};
+ghost use Rattle.claims.specs.Kernel.{KernelExample};
 ghost use Rattle.claims.specs.Guests.{GuestClaim};
 ghost use Rattle.claims.specs.Journals.{JournalClaim};
 ghost use Rattle.claims.specs.TwoMachines.{TwoMachines};
@@ -31,6 +33,7 @@ pub fn every_claim_holds()
     ensures { λ _. ⌜ EachRun ⌝ }
     ensures { λ _. ⌜ FiveExactlyWhen ⌝ }
     ensures { λ _. ⌜ NoWriteMakesFive ⌝ }
+    ensures { λ _. ⌜ TenExactlyWhen ⌝ }
     ensures { λ _. ⌜ WhoSeesCntpoff ⌝ }
     ensures { λ _. ⌜ WritesChangeOne ⌝ }
     ensures { λ _. ⌜ ReadsGive ⌝ }
@@ -41,6 +44,7 @@ pub fn every_claim_holds()
     ensures { λ _. ⌜ EnabledAfterwards ⌝ }
     ensures { λ _. ⌜ ReadFollowsWrite ⌝ }
     ensures { λ _. ⌜ ControlsReadBack ⌝ }
+    ensures { λ _. ⌜ KernelExample ⌝ }
     ensures { λ _. ⌜ GuestClaim ⌝ }
     ensures { λ _. ⌜ JournalClaim ⌝ }
     ensures { λ _. ⌜ TwoMachines ⌝ }

@@ -6,10 +6,12 @@ use Rattle.claims.proofs.Refusals.{refusals-move-nothing, record-refusa
 use Rattle.claims.proofs.Numbers.{each-answer, each-record, each-run}
 use Rattle.claims.proofs.Grounds.{five-exactly-when}
 use Rattle.claims.proofs.Contexts.{no-write-makes-five}
+use Rattle.claims.proofs.Ten.{ten-exactly-when}
 use Rattle.claims.proofs.Offset.{who-sees-cntpoff}
 use Rattle.claims.proofs.Writes.{writes-change-one, reads-give, done-is-permitted}
 use Rattle.claims.proofs.ReadBack.{timer-reads-back, tval-reads-back, left-as-written, enabled-afterwards, read-follows-write}
 use Rattle.claims.proofs.Controls.{controls-read-back}
+use Rattle.claims.proofs.Kernel.{kernel-example}
 use Rattle.claims.proofs.Guests.{guest-claim}
 use Rattle.claims.proofs.Journals.{journal-claim}
 use Rattle.claims.proofs.TwoMachines.{two-machines}
@@ -37,6 +39,7 @@ returns c =
     and each-run
     and five-exactly-when
     and no-write-makes-five
+    and ten-exactly-when
     and who-sees-cntpoff
     and writes-change-one
     and reads-give
@@ -47,6 +50,7 @@ returns c =
     and enabled-afterwards
     and read-follows-write
     and controls-read-back
+    and kernel-example
     and guest-claim
     and journal-claim
     and two-machines
