@@ -25,6 +25,8 @@ use Rattle.gates.proofs.cnthctl as gates-cnthctl
 use Rattle.gates.proofs.el2_on as gates-el2-on
 use Rattle.gates.proofs.offset_on as gates-offset-on
 use Rattle.gates.proofs.verdict as gates-verdict
+use Rattle.controls.proofs.stored_cntkctl as controls-stored-cntkctl
+use Rattle.controls.proofs.stored_cnthctl as controls-stored-cnthctl
 use Rattle.timers.proofs.read as timers-read
 use Rattle.timers.proofs.write as timers-write
 use Rattle.timers.proofs.count_of as timers-count-of
@@ -69,6 +71,8 @@ pub record EachPromise : Type 0 where
   pub el2On : OneResult 0 gates-el2-on.Kinds.ps gates-el2-on.Kinds.r gates-el2-on.Reads.Learnt
   pub offsetOn : OneResult 0 gates-offset-on.Kinds.ps gates-offset-on.Kinds.r gates-offset-on.Reads.Learnt
   pub verdict : OneResult 0 gates-verdict.Kinds.ps gates-verdict.Kinds.r gates-verdict.Reads.Learnt
+  pub storedCntkctl : OneResult 0 controls-stored-cntkctl.Kinds.ps controls-stored-cntkctl.Kinds.r controls-stored-cntkctl.Reads.Learnt
+  pub storedCnthctl : OneResult 0 controls-stored-cnthctl.Kinds.ps controls-stored-cnthctl.Kinds.r controls-stored-cnthctl.Reads.Learnt
   pub read : OneResult 0 timers-read.Kinds.ps timers-read.Kinds.r timers-read.Reads.Learnt
   pub write : OneResult 0 timers-write.Kinds.ps timers-write.Kinds.r timers-write.Reads.Learnt
   pub countOf : OneResult 0 timers-count-of.Kinds.ps timers-count-of.Kinds.r timers-count-of.Reads.Learnt
