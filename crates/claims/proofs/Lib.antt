@@ -19,3 +19,4 @@ pub mod Ten
 pub mod TwoMachines
 pub mod Ways
 pub mod Writes
+pub mod WrittenBits

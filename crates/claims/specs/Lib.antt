@@ -9,6 +9,7 @@ pub mod Offset
 pub mod Writes
 pub mod ReadBack
 pub mod Controls
+pub mod WrittenBits
 pub mod Kernel
 pub mod Guests
 pub mod Journals

@@ -11,6 +11,7 @@ ghost use Rattle.claims.specs.Offset.{WhoSeesCntpoff};
 ghost use Rattle.claims.specs.Writes.{WritesChangeOne, ReadsGive, DoneIsPermitted};
 ghost use Rattle.claims.specs.ReadBack.{TimerReadsBack, TvalReadsBack, LeftAsWritten, EnabledAfterwards, ReadFollowsWrite};
 ghost use Rattle.claims.specs.Controls.{ControlsReadBack};
+ghost use Rattle.claims.specs.WrittenBits.{WrittenBitsRule};
 ghost use Rattle.claims.specs.Kernel.{KernelExample};
 ghost use Rattle.claims.specs.Guests.{GuestClaim};
 ghost use Rattle.claims.specs.Journals.{JournalClaim};
@@ -44,6 +45,7 @@ pub fn every_claim_holds()
     ensures { λ _. ⌜ EnabledAfterwards ⌝ }
     ensures { λ _. ⌜ ReadFollowsWrite ⌝ }
     ensures { λ _. ⌜ ControlsReadBack ⌝ }
+    ensures { λ _. ⌜ WrittenBitsRule ⌝ }
     ensures { λ _. ⌜ KernelExample ⌝ }
     ensures { λ _. ⌜ GuestClaim ⌝ }
     ensures { λ _. ⌜ JournalClaim ⌝ }

@@ -11,6 +11,7 @@ use Rattle.claims.proofs.Offset.{who-sees-cntpoff}
 use Rattle.claims.proofs.Writes.{writes-change-one, reads-give, done-is-permitted}
 use Rattle.claims.proofs.ReadBack.{timer-reads-back, tval-reads-back, left-as-written, enabled-afterwards, read-follows-write}
 use Rattle.claims.proofs.Controls.{controls-read-back}
+use Rattle.claims.proofs.WrittenBits.{written-bits-rule}
 use Rattle.claims.proofs.Kernel.{kernel-example}
 use Rattle.claims.proofs.Guests.{guest-claim}
 use Rattle.claims.proofs.Journals.{journal-claim}
@@ -50,6 +51,7 @@ returns c =
     and enabled-afterwards
     and read-follows-write
     and controls-read-back
+    and written-bits-rule
     and kernel-example
     and guest-claim
     and journal-claim
