@@ -41,6 +41,6 @@ pub use reading::Reading;
 pub use record::{Record, RECORD_BYTES, RECORD_LIMIT};
 pub use register::{Part, Register};
 pub use scope::Scope;
-pub use state::{Level, State, Timer, TimerName};
+pub use state::{ControlName, Level, State, Timer, TimerName};
 pub use tally::{Cell, Tally};
 pub use values::Masked;

@@ -28,7 +28,7 @@ pub trait Paper {
 
     /// Whether a control bit is 1.
     fn bit(&self, state: &State, control: Control) -> bool {
-        control.register(state) >> self.place(control) & 1 == 1
+        state.control(control.register()) >> self.place(control) & 1 == 1
     }
 
     /// **EL2 on**: NS is 1, or SEL2 and EEL2 are 1.
