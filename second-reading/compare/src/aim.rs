@@ -43,6 +43,7 @@ pub(crate) fn likely_timer(
         (Cntv(_), true, false) => Some(TimerName::Cnthvs),
         (Cnthp(_), ..) => Some(TimerName::Cnthp),
         (Cnthvs(_), ..) => Some(TimerName::Cnthvs),
-        (Cntpct | Cntvct | Cntpctss | Cntvctss | Cntvoff, ..) => None,
+        (Cntpct | Cntvct | Cntpctss | Cntvctss, ..) => None,
+        (Cntvoff | Cntkctl | Cnthctl | Cntpoff, ..) => None,
     }
 }

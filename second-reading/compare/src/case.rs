@@ -24,7 +24,7 @@ pub enum Kind {
 pub const KINDS: u64 = 32;
 
 /// All registers, directions and levels once, and half as many odd records.
-const ORDINARY_RECORDS: usize = 200;
+const ORDINARY_RECORDS: usize = 240;
 
 impl Kind {
     fn of(seed: u64) -> Kind {
@@ -141,6 +141,6 @@ mod tests {
                 (record.reserved == 0).then(|| format!("{register:?} {direction:?} {level}"))
             })
             .collect();
-        assert_eq!(asked.len(), 17 * 2 * 4);
+        assert_eq!(asked.len(), 20 * 2 * 4);
     }
 }
