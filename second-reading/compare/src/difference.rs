@@ -193,6 +193,6 @@ mod tests {
         let expected = expected(&case, &AsWritten);
         let shorter = by_probe(&expected.output[..130]);
         let told = explain(&case, expected.by_reading(), shorter).expect("shorter");
-        assert!(told.contains("probe wrote 130 bytes where 5890 were expected"));
+        assert!(told.contains("probe wrote 130 bytes where 7330 were expected"));
     }
 }
