@@ -105,11 +105,14 @@ impl Reading<'_> {
     }
 
     fn control(&mut self, call: &Call, ruling: Ruling<ControlName>) -> Answer {
+        let (paper, state) = (self.paper, self.state);
+        let asked = call.instruction.register;
+        let reached = |named| paper.control_reached(&state, asked, call.level, named);
         self.either_way(
             call,
             ruling,
-            |reading, name| reading.read_control(call, name),
-            |reading, name| reading.write_control(call, name),
+            |reading, named| reading.read_control(call, reached(named)),
+            |reading, named| reading.write_control(call, reached(named)),
         )
     }
 

@@ -183,6 +183,17 @@ pub trait Paper {
 
     // Document 02, request 1: 'Control registers by access'
 
+    /// The control register that a rule names is the one that an access to the register reaches.
+    fn control_reached(
+        &self,
+        _state: &State,
+        _asked: Register,
+        _level: Level,
+        named: ControlName,
+    ) -> ControlName {
+        named
+    }
+
     /// A write of CNTKCTL_EL1 at EL2 with E2H 1 is a write of CNTHCTL and keeps CNTHCTL's bits;
     /// CNTHCTL has those of the E2H at the moment of the write.
     fn layout(&self, state: &State, _asked: Register, reached: ControlName) -> Layout {
