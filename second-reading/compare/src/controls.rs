@@ -10,7 +10,7 @@ const CNTHCTL_USED: [u32; 6] = [0, 1, 8, 9, 10, 11];
 const CNTHCTL_ECV: u32 = 12;
 const CNTHCTL_TRAPS: [u32; 2] = [13, 14];
 
-/// Above these no page of Arm's has a field.
+/// The bits that Arm's pages speak of, from 0 on.
 const ON_THE_PAGES: u64 = 20;
 
 /// Bits that permit more often than not.

@@ -231,12 +231,12 @@ clauses! {
     CntpoffEl2 CNTPOFF, "CNTPOFF EL2: itself";
     CntpoffEl3 CNTPOFF, "CNTPOFF EL3: itself";
 
-    CntkctlWritten CNTKCTL_WRITTEN, "CNTKCTL write: its fields, else 0";
+    CntkctlWritten CNTKCTL_WRITTEN, "CNTKCTL write without ECV: its fields, else 0";
     CntkctlWrittenEcv CNTKCTL_WRITTEN, "CNTKCTL write with ECV: its fields, else 0";
-    CnthctlWrittenE2h0 CNTHCTL_WRITTEN, "CNTHCTL write, E2H 0: its fields, else 0";
-    CnthctlWrittenE2h0Ecv CNTHCTL_WRITTEN, "CNTHCTL write, E2H 0, with ECV: its fields, else 0";
-    CnthctlWrittenE2h1 EITHER_WRITTEN, "CNTHCTL write, E2H 1: its fields, else 0";
-    CnthctlWrittenE2h1Ecv EITHER_WRITTEN, "CNTHCTL write, E2H 1, with ECV: its fields, else 0";
+    CnthctlWrittenE2h0 CNTHCTL_WRITTEN, "CNTHCTL write, E2H 0 without ECV: its fields, else 0";
+    CnthctlWrittenE2h0Ecv CNTHCTL_WRITTEN, "CNTHCTL write, E2H 0 with ECV: its fields, else 0";
+    CnthctlWrittenE2h1 EITHER_WRITTEN, "CNTHCTL write, E2H 1 without ECV: its fields, else 0";
+    CnthctlWrittenE2h1Ecv EITHER_WRITTEN, "CNTHCTL write, E2H 1 with ECV: its fields, else 0";
     ReservedWritten EITHER_WRITTEN, "control write, a reserved bit 1: stored as 0";
     UpperHalfWritten EITHER_WRITTEN, "control write, bits 63..32 not 0: dropped";
     CntkctlRead CNTKCTL_READ, "CNTKCTL read: the 32 bits held";

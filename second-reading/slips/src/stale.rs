@@ -34,6 +34,10 @@ impl Start {
         self.0.set(reading.state);
         AsWritten.run(reading, journal, answers)
     }
+
+    fn state(&self) -> State {
+        self.0.get()
+    }
 }
 
 struct StaleControl {
@@ -48,7 +52,7 @@ impl Paper for StaleControl {
 
     fn bit(&self, state: &State, control: Control) -> bool {
         if control == self.control {
-            AsWritten.bit(&self.start.0.get(), control)
+            AsWritten.bit(&self.start.state(), control)
         } else {
             AsWritten.bit(state, control)
         }
@@ -64,6 +68,6 @@ impl Paper for StaleCntpoff {
     }
 
     fn less_cntpoff(&self, _state: &State, physical: u64) -> u64 {
-        AsWritten.less_cntpoff(&self.0 .0.get(), physical)
+        AsWritten.less_cntpoff(&self.0.state(), physical)
     }
 }

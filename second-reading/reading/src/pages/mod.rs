@@ -1,4 +1,5 @@
-//! Document 01, 'Who may touch what', and document 02, request 1: one page for each register family.
+//! Document 01, 'Who may touch what', and document 02, request 1: one page for each register
+//! family.
 //!
 //! Rules are tried in order; the first that fits decides. Each stands with the clause that has it.
 
