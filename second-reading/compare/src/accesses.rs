@@ -1,18 +1,34 @@
-//! Records: every register in both directions at every level, and words that miss by a little.
+//! Records: every register in both directions at every level, every control bit turned, and odd
+//! ones.
 
 use reading::{
-    Access, Direction, Instruction, Level, Part, Reading, Record, Register, State, TimerName,
+    Access, Control, ControlName, Direction, Instruction, Level, Reading, Record, Register, State,
+    TimerName,
 };
 
-use crate::aim::{due, likely_timer};
+use crate::aim::{due, likely_control, likely_timer};
+use crate::controls;
 use crate::dice::Dice;
+use crate::gates::{guarded, writers};
 use crate::numbers::Numbers;
+use crate::words::{is_ctl, odd_word, word};
 
 /// What a record asks, before its numbers are drawn.
 #[derive(Clone, Copy)]
 enum Plan {
-    Of(Register, Direction, u8),
+    Of(Register, Direction, Level),
+    /// The bit is written, what it guards is asked, and the same again with the bit turned.
+    Turned(Control),
     Odd,
+}
+
+impl Plan {
+    fn records(&self) -> usize {
+        match self {
+            Plan::Of(..) | Plan::Odd => 1,
+            Plan::Turned(_) => 4,
+        }
+    }
 }
 
 /// Draws the records of one journal, following the state they bring about.
@@ -20,6 +36,7 @@ pub(crate) struct Author<'a> {
     dice: &'a mut Dice,
     numbers: &'a mut Numbers,
     guide: Reading<'static>,
+    records: Vec<Record>,
 }
 
 impl<'a> Author<'a> {
@@ -28,42 +45,97 @@ impl<'a> Author<'a> {
             dice,
             numbers,
             guide: Reading::new(start),
+            records: Vec::new(),
         }
     }
 
-    /// The records in a shuffled order: every register, direction and level as often as three
-    /// quarters of the journal hold, and odd ones for the rest.
-    pub(crate) fn records(&mut self, length: usize) -> Vec<Record> {
-        let all = every_access();
-        let rounds = length * 3 / 4 / all.len();
-        let mut plans = all.repeat(rounds);
-        plans.resize(length, Plan::Odd);
+    /// The records in a shuffled order: every register, direction and level and every control bit
+    /// as often as three quarters of the journal hold, and odd ones for the rest.
+    pub(crate) fn records(mut self, length: usize) -> Vec<Record> {
+        let round = one_round();
+        let in_a_round: usize = round.iter().map(Plan::records).sum();
+        let rounds = length * 3 / 4 / in_a_round;
+        let odd = length - rounds * in_a_round;
+        let mut plans = [round.repeat(rounds), vec![Plan::Odd; odd]].concat();
         self.dice.shuffle(&mut plans);
-        let mut records: Vec<Record> = plans.into_iter().map(|plan| self.record(plan)).collect();
-        if let Some(last) = records.last_mut() {
-            self.aim_at_a_line(last);
+        for plan in plans {
+            self.carry_out(plan);
         }
-        records
+        self.aim_at_a_line();
+        self.records
     }
 
-    fn record(&mut self, plan: Plan) -> Record {
-        let record = match plan {
+    fn carry_out(&mut self, plan: Plan) {
+        match plan {
             Plan::Of(register, direction, level) => {
-                let word = self.word(register, direction);
-                self.drawn(word, level)
+                let word = word(self.dice, register, direction);
+                let record = self.drawn(word, level as u8);
+                self.write_down(record);
             }
-            Plan::Odd => self.odd_record(),
-        };
+            Plan::Turned(control) => self.turn(control),
+            Plan::Odd => {
+                let record = self.odd_record();
+                self.write_down(record);
+            }
+        }
+    }
+
+    fn turn(&mut self, control: Control) {
+        let mut write = self.control_write(control.register());
+        self.write_down(write);
+        let asked = self.guarded_access(control);
+        self.write_down(asked);
+        write.access.operand ^= 1 << control.place();
+        self.write_down(write);
+        self.write_down(asked);
+    }
+
+    fn write_down(&mut self, record: Record) {
         if record.reserved == 0 {
             self.guide.access(&record.access);
         }
-        record
+        self.records.push(record);
+    }
+
+    /// A write that reaches the register, with bits that permit.
+    fn control_write(&mut self, name: ControlName) -> Record {
+        let (register, level) = self.dice.pick(&writers(&self.guide.state, name));
+        let instruction = Instruction {
+            direction: Direction::Msr,
+            register,
+            // Not 31, which would write 0.
+            rt: self.dice.below(31) as u8,
+        };
+        let access = Access {
+            word: instruction.word(),
+            level: level as u8,
+            operand: controls::permitting_operand(self.dice, name),
+            count: self.numbers.count(self.dice),
+        };
+        Record {
+            access,
+            reserved: 0,
+        }
+    }
+
+    /// An access that looks at the bit.
+    fn guarded_access(&mut self, control: Control) -> Record {
+        let (registers, levels) = guarded(control);
+        let register = self.dice.pick(&registers);
+        let level = self.dice.pick(levels);
+        let direction = match register.part() {
+            Some(_) => self.dice.pick(&Direction::ALL),
+            // A counter is not there to be written.
+            None => Direction::Mrs,
+        };
+        let word = word(self.dice, register, direction);
+        self.drawn(word, level as u8)
     }
 
     fn odd_record(&mut self) -> Record {
         let level = self.dice.below(4) as u8;
-        let kind = self.dice.below(8);
-        let word = self.odd_word(kind);
+        let kind = self.dice.below(9);
+        let word = odd_word(self.dice, kind);
         let mut record = self.drawn(word, level);
         if kind == 0 || self.dice.percent(5) {
             record.reserved = self.reserved();
@@ -71,28 +143,12 @@ impl<'a> Author<'a> {
         record
     }
 
-    fn odd_word(&mut self, kind: u64) -> u32 {
-        let word = self.named_word();
-        match kind {
-            1 => word ^ self.miss(),
-            2 | 3 => word ^ self.miss() ^ self.miss(),
-            4 => self.dice.any() as u32,
-            5 => self.neighbour(word),
-            6 => {
-                let controls: Vec<Register> = Register::all().filter(is_ctl).collect();
-                let register = self.dice.pick(&controls);
-                self.word(register, Direction::Mrs)
-            }
-            _ => word,
-        }
-    }
-
     fn drawn(&mut self, word: u32, level: u8) -> Record {
         let count = self.count(word, level);
-        let operand = self.operand(word);
-        let signed = i64::from(operand as i32) as u64;
-        self.numbers.remember(self.dice, operand);
-        self.numbers.remember(self.dice, count.wrapping_add(signed));
+        let operand = match self.control_operand(word, level) {
+            Some(operand) => operand,
+            None => self.operand(word, count),
+        };
         Record {
             access: Access {
                 word,
@@ -120,50 +176,37 @@ impl<'a> Author<'a> {
         }
     }
 
-    /// The operand; for many control writes one that enables the timer.
-    fn operand(&mut self, word: u32) -> u64 {
-        let control = Instruction::of(word).is_ok_and(|i| is_ctl(&i.register));
-        if control && self.dice.percent(50) {
+    /// The operand for a control register, which goes by what that holds.
+    fn control_operand(&mut self, word: u32, level: u8) -> Option<u64> {
+        let register = Instruction::of(word).ok()?.register;
+        let state = &self.guide.state;
+        let name = likely_control(state, register, level)?;
+        Some(controls::operand(self.dice, name, state.control(name)))
+    }
+
+    /// The operand; for many writes of a CTL one that enables the timer.
+    fn operand(&mut self, word: u32, count: u64) -> u64 {
+        let ctl = Instruction::of(word).is_ok_and(|i| is_ctl(&i.register));
+        let operand = if ctl && self.dice.percent(50) {
             self.dice.any() | 1
         } else {
             self.numbers.operand(self.dice)
-        }
+        };
+        let signed = i64::from(operand as i32) as u64;
+        self.numbers.remember(self.dice, operand);
+        self.numbers.remember(self.dice, count.wrapping_add(signed));
+        operand
     }
 
     /// The lines are asked at the last record's count.
-    fn aim_at_a_line(&mut self, last: &mut Record) {
+    fn aim_at_a_line(&mut self) {
+        let Some(last) = self.records.last_mut() else {
+            return;
+        };
         if self.dice.percent(90) {
             let timer = self.dice.pick(&TimerName::ALL);
             last.access.count = due(self.dice, &self.guide.state, timer);
         }
-    }
-
-    fn named_word(&mut self) -> u32 {
-        let registers: Vec<Register> = Register::all().collect();
-        let register = self.dice.pick(&registers);
-        let direction = self.dice.pick(&Direction::ALL);
-        self.word(register, direction)
-    }
-
-    fn word(&mut self, register: Register, direction: Direction) -> u32 {
-        let other = self.dice.below(32) as u8;
-        Instruction {
-            direction,
-            register,
-            rt: self.dice.pick(&[0, 30, 31, other]),
-        }
-        .word()
-    }
-
-    /// A bit outside Rt to miss a word by.
-    fn miss(&mut self) -> u32 {
-        1 << (5 + self.dice.below(27))
-    }
-
-    /// A word with other op1, CRm and op2: registers next to those of the table.
-    fn neighbour(&mut self, word: u32) -> u32 {
-        let fields = 0x0007_0FE0;
-        word & !fields | self.dice.any() as u32 & fields
     }
 
     /// Reserved bits: one of the thirty, or many.
@@ -177,15 +220,11 @@ impl<'a> Author<'a> {
     }
 }
 
-fn is_ctl(register: &Register) -> bool {
-    register.part() == Some(Part::Ctl)
-}
-
-fn every_access() -> Vec<Plan> {
-    let mut plans = Vec::new();
+fn one_round() -> Vec<Plan> {
+    let mut plans: Vec<Plan> = Control::ALL.iter().copied().map(Plan::Turned).collect();
     for register in Register::all() {
         for direction in Direction::ALL {
-            plans.extend(Level::ALL.map(|level| Plan::Of(register, direction, level as u8)));
+            plans.extend(Level::ALL.map(|level| Plan::Of(register, direction, level)));
         }
     }
     plans

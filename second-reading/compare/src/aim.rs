@@ -1,6 +1,7 @@
-//! Counts aimed at the moment a timer is met, which chance alone seldom hits.
+//! What an access most likely reaches, and counts aimed at the moment a timer is met, which chance
+//! alone seldom hits.
 
-use reading::{Instruction, Register, State, TimerName};
+use reading::{ControlName, Instruction, Register, State, TimerName};
 
 use crate::dice::Dice;
 
@@ -43,6 +44,18 @@ pub(crate) fn likely_timer(
         (Cntv(_), true, false) => Some(TimerName::Cnthvs),
         (Cnthp(_), ..) => Some(TimerName::Cnthp),
         (Cnthvs(_), ..) => Some(TimerName::Cnthvs),
-        (Cntpct | Cntvct | Cntpctss | Cntvctss | Cntvoff, ..) => None,
+        (Cntpct | Cntvct | Cntpctss | Cntvctss, ..) => None,
+        (Cntvoff | Cntkctl | Cnthctl | Cntpoff, ..) => None,
+    }
+}
+
+/// The control register that an access most likely reaches. It only guides the choice of an
+/// operand.
+pub(crate) fn likely_control(state: &State, register: Register, level: u8) -> Option<ControlName> {
+    match register {
+        Register::Cntkctl if state.e2h && level == 2 => Some(ControlName::Cnthctl),
+        Register::Cntkctl => Some(ControlName::Cntkctl),
+        Register::Cnthctl => Some(ControlName::Cnthctl),
+        _ => None,
     }
 }

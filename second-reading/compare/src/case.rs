@@ -23,8 +23,9 @@ pub enum Kind {
 /// The kinds come round in this many seeds, so that any such stretch has each of them.
 pub const KINDS: u64 = 32;
 
-/// All registers, directions and levels once, and half as many odd records.
-const ORDINARY_RECORDS: usize = 200;
+/// All registers, directions and levels once, all control bits turned, and a third as many odd
+/// records.
+const ORDINARY_RECORDS: usize = 300;
 
 impl Kind {
     fn of(seed: u64) -> Kind {
@@ -107,7 +108,7 @@ impl Case {
 #[cfg(test)]
 mod tests {
     use super::*;
-    use reading::Instruction;
+    use reading::{Control, Instruction};
     use std::collections::HashSet;
 
     #[test]
@@ -141,6 +142,18 @@ mod tests {
                 (record.reserved == 0).then(|| format!("{register:?} {direction:?} {level}"))
             })
             .collect();
-        assert_eq!(asked.len(), 17 * 2 * 4);
+        assert_eq!(asked.len(), 20 * 2 * 4);
+    }
+
+    #[test]
+    fn an_ordinary_case_turns_every_control_bit_between_two_like_accesses() {
+        let turned = |four: &&[Record]| {
+            let [write, asked, turned, again] = [0, 1, 2, 3].map(|place| four[place].access);
+            let bits = write.operand ^ turned.operand;
+            write.word == turned.word && bits.is_power_of_two() && asked == again
+        };
+        let records = Case::of(31).records();
+        let turns = records.windows(4).filter(turned).count();
+        assert_eq!(turns, Control::ALL.len());
     }
 }

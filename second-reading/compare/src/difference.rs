@@ -1,6 +1,7 @@
 //! Differences between what was expected and what was written, in the words of scribe, which shows
 //! the same bytes to whoever makes a case again.
 
+use reading::{Reading, RECORD_BYTES};
 use scribe::{words, Answer, Record, State, IMAGE_BYTES, TIMERS};
 
 use crate::case::Case;
@@ -78,6 +79,7 @@ fn answers(case: &Case, expected: Output, found: Output) -> String {
     for &place in differing.iter().take(TOLD) {
         let record = Record::unpack(&records[place]);
         told += &format!("  record {place}: {}\n", words::record(&record));
+        told += &controls_before(case, place);
         for (by, answers) in [(expected.by, wanted), (found.by, written)] {
             let answer = words::answer(&Answer::unpack(&answers[place]), record.word);
             told += &format!("    {:<width$} {answer}\n", format!("{by}:"));
@@ -87,6 +89,15 @@ fn answers(case: &Case, expected: Output, found: Output) -> String {
         told += &format!("  and {} more records\n", differing.len() - TOLD);
     }
     told
+}
+
+/// What the control registers hold before a record, since earlier ones may have written them.
+fn controls_before(case: &Case, place: usize) -> String {
+    let earlier = &case.journal[..place * RECORD_BYTES];
+    let mut reading = Reading::new(case.state);
+    reading.run(earlier, &mut vec![0; earlier.len()]);
+    let (cntkctl, cnthctl) = (reading.state.cntkctl, reading.state.cnthctl);
+    format!("    with CNTKCTL_EL1 {cntkctl:#X}, CNTHCTL_EL2 {cnthctl:#X} by the second reading\n")
 }
 
 fn states(expected: &End, found: &End) -> String {
@@ -135,7 +146,7 @@ fn raised([number, lines]: [u8; 2]) -> String {
 mod tests {
     use super::*;
     use crate::expected::expected;
-    use reading::{AsWritten, RECORD_BYTES};
+    use reading::AsWritten;
 
     const ORDINARY: u64 = 7;
 
@@ -171,6 +182,26 @@ mod tests {
     }
 
     #[test]
+    fn a_differing_answer_is_told_with_the_controls_that_earlier_records_wrote() {
+        // MSR CNTKCTL_EL1, X0
+        let text = "WORD 0xD518E100 EL1 = 1 @ 0\nEL0 MRS X0, CNTVCT_EL0 @ 1000\n";
+        let mut case = Case::of(1);
+        case.state = reading::State::bench();
+        case.journal = scribe::pack(text).expect("a text");
+        let expected = expected(&case, &AsWritten);
+        let mut found = expected.output.clone();
+        found[RECORD_BYTES] ^= 0x10;
+        let told = explain(&case, expected.by_reading(), by_probe(&found)).expect("changed");
+        let record = "record 1: EL0 MRS X0, CNTVCT_EL0 @ 1000";
+        let held = "with CNTKCTL_EL1 0x1, CNTHCTL_EL2 0x0 by the second reading";
+        let answer = "second reading: trap to EL1, class 0x18";
+        assert!(
+            told.contains(&format!("{record}\n    {held}\n    {answer}\n")),
+            "{told}"
+        );
+    }
+
+    #[test]
     fn a_differing_field_and_differing_lines_are_named() {
         let told = with_byte_changed(|length| length - 130 + 16);
         assert!(
@@ -193,6 +224,6 @@ mod tests {
         let expected = expected(&case, &AsWritten);
         let shorter = by_probe(&expected.output[..130]);
         let told = explain(&case, expected.by_reading(), shorter).expect("shorter");
-        assert!(told.contains("probe wrote 130 bytes where 4930 were expected"));
+        assert!(told.contains("probe wrote 130 bytes where 7330 were expected"));
     }
 }

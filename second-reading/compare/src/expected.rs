@@ -71,7 +71,7 @@ mod tests {
             .map(|seed| expected(&Case::of(seed), &AsWritten).output.len())
             .collect();
         let with = |records| records * RECORD_BYTES + 130;
-        let [none, one, full, ordinary] = [0, 1, RECORD_LIMIT, 200].map(with);
+        let [none, one, full, ordinary] = [0, 1, RECORD_LIMIT, 300].map(with);
         assert_eq!(lengths, [none, one, none, full, none, none, 0, ordinary]);
     }
 }

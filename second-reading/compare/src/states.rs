@@ -1,15 +1,10 @@
 //! Start states: possible ones mostly, impossible ones by one fact or by many.
 
-use reading::{State, Timer};
+use reading::{AsWritten, ControlName, Paper, State, Timer};
 
+use crate::controls::permitting;
 use crate::dice::Dice;
 use crate::numbers::Numbers;
-
-/// The control bits the rules look at; the others are ignored and set at random.
-const CNTKCTL_USED: [u32; 4] = [0, 1, 8, 9];
-const CNTHCTL_USED: [u32; 6] = [0, 1, 8, 9, 10, 11];
-const CNTHCTL_ECV: u32 = 12;
-const CNTHCTL_TRAPS: [u32; 2] = [13, 14];
 
 pub(crate) fn any_state(dice: &mut Dice, numbers: &mut Numbers) -> State {
     let mut state = possible_state(dice);
@@ -38,33 +33,19 @@ fn possible_state(dice: &mut Dice) -> State {
         sel2: eel2 || dice.percent(70),
         vhe: e2h || dice.percent(70),
         ecven: ecv && dice.percent(70),
-        cntkctl: bits(dice, &CNTKCTL_USED, 70) | unused(dice, &CNTKCTL_USED),
+        cntkctl: permitting(dice, ControlName::Cntkctl),
         cnthctl: cnthctl(dice, ecv),
         ..State::default()
     }
 }
 
 fn cnthctl(dice: &mut Dice, ecv: bool) -> u32 {
-    let ecv_bits = bits(dice, &[CNTHCTL_ECV], 60) | bits(dice, &CNTHCTL_TRAPS, 30);
-    let used = [&CNTHCTL_USED[..], &[CNTHCTL_ECV], &CNTHCTL_TRAPS].concat();
-    let rest = bits(dice, &CNTHCTL_USED, 65) | unused(dice, &used);
+    let permitting = permitting(dice, ControlName::Cnthctl);
     if ecv {
-        rest | ecv_bits
+        permitting
     } else {
-        rest
+        permitting & !AsWritten.bits_with_ecv()
     }
-}
-
-fn bits(dice: &mut Dice, places: &[u32], chance: u64) -> u32 {
-    places
-        .iter()
-        .map(|place| u32::from(dice.percent(chance)) << place)
-        .sum()
-}
-
-fn unused(dice: &mut Dice, used: &[u32]) -> u32 {
-    let used: u32 = used.iter().map(|place| 1 << place).sum();
-    dice.any() as u32 & !used
 }
 
 /// Breaks the state on one ground of refusal 5.

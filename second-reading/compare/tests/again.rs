@@ -43,7 +43,7 @@ fn a_bad_end_is_a_difference_whatever_was_written() {
 fn other_bytes_are_a_difference() {
     let (code, text) = said(again(&["7"], "/bin/true"));
     assert!(
-        text.contains("probe wrote 0 bytes where 4930 were expected"),
+        text.contains("probe wrote 0 bytes where 7330 were expected"),
         "{text}"
     );
     assert_eq!(code, Some(1));

@@ -10,7 +10,7 @@ const FIXED_SEED: u64 = 0x5EC0_4D12_EAD1_4600;
 const CASES: u64 = 38 * KINDS;
 const LEAST: Least = Least {
     states: 1_000,
-    records: 200_000,
+    records: 300_000,
 };
 
 fn main() -> ExitCode {

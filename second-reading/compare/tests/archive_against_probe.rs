@@ -10,7 +10,7 @@ const FIXED_SEED: u64 = 0xA2C4_11FE_0DE5_4C00;
 const CASES: u64 = 8 * KINDS;
 const LEAST: Least = Least {
     states: 200,
-    records: 40_000,
+    records: 60_000,
 };
 
 fn main() -> ExitCode {

@@ -18,6 +18,15 @@ const COUNTERS: Scope = Scope::Calls(&[Cntpct, Cntvct, Cntpctss, Cntvctss], &[Ms
 const CNTVOFF: Scope = Scope::Calls(&[Cntvoff], &Direction::ALL);
 const CNTHP: Scope = Scope::Parts(Cnthp);
 const CNTHVS: Scope = Scope::Parts(Cnthvs);
+const CNTKCTL: Scope = Scope::Calls(&[Cntkctl], &Direction::ALL);
+const CNTHCTL: Scope = Scope::Calls(&[Cnthctl], &Direction::ALL);
+const CNTPOFF: Scope = Scope::Calls(&[Cntpoff], &Direction::ALL);
+const CNTKCTL_READ: Scope = Scope::Calls(&[Cntkctl], &[Mrs]);
+const CNTKCTL_WRITTEN: Scope = Scope::Calls(&[Cntkctl], &[Msr]);
+const CNTHCTL_WRITTEN: Scope = Scope::Calls(&[Cnthctl], &[Msr]);
+/// CNTHCTL is reached by CNTKCTL's name too, at EL2 with E2H 1.
+const EITHER_READ: Scope = Scope::Calls(&[Cntkctl, Cnthctl], &[Mrs]);
+const EITHER_WRITTEN: Scope = Scope::Calls(&[Cntkctl, Cnthctl], &[Msr]);
 const CNTP_TVAL: Scope = Scope::Calls(&[Cntp(Tval)], &Direction::ALL);
 const CNTV_TVAL: Scope = Scope::Calls(&[Cntv(Tval)], &Direction::ALL);
 const SIX: Scope = Scope::Timers(&TimerName::ALL);
@@ -204,6 +213,37 @@ clauses! {
     LineRaised SIX, "line: met with IMASK 0, raised";
     LineAtCval SIX, "line: ENABLE 1 and the count just at CVAL: met";
     LineBelowCval SIX, "line: ENABLE 1 and the count 1 below CVAL: not met";
+
+    // Document 02, request 1.
+    CntkctlEl0 CNTKCTL, "CNTKCTL EL0: Undefined";
+    CntkctlEl1 CNTKCTL, "CNTKCTL EL1: itself, never trapped";
+    CntkctlEl2E2h CNTKCTL, "CNTKCTL EL2, E2H 1: CNTHCTL";
+    CntkctlEl2 CNTKCTL, "CNTKCTL EL2: itself";
+    CntkctlEl3 CNTKCTL, "CNTKCTL EL3: itself";
+    CnthctlEl0 CNTHCTL, "CNTHCTL EL0: Undefined";
+    CnthctlEl1 CNTHCTL, "CNTHCTL EL1: Undefined";
+    CnthctlEl2 CNTHCTL, "CNTHCTL EL2: itself";
+    CnthctlEl3 CNTHCTL, "CNTHCTL EL3: itself";
+    CntpoffMissing CNTPOFF, "CNTPOFF without ECV: Undefined";
+    CntpoffEl0 CNTPOFF, "CNTPOFF EL0: Undefined";
+    CntpoffEl1 CNTPOFF, "CNTPOFF EL1: Undefined";
+    CntpoffEl2Ecven CNTPOFF, "CNTPOFF EL2, ECVEn 0: trap to EL3";
+    CntpoffEl2 CNTPOFF, "CNTPOFF EL2: itself";
+    CntpoffEl3 CNTPOFF, "CNTPOFF EL3: itself";
+
+    CntkctlWritten CNTKCTL_WRITTEN, "CNTKCTL write without ECV: its fields, else 0";
+    CntkctlWrittenEcv CNTKCTL_WRITTEN, "CNTKCTL write with ECV: its fields, else 0";
+    CnthctlWrittenE2h0 CNTHCTL_WRITTEN, "CNTHCTL write, E2H 0 without ECV: its fields, else 0";
+    CnthctlWrittenE2h0Ecv CNTHCTL_WRITTEN, "CNTHCTL write, E2H 0 with ECV: its fields, else 0";
+    CnthctlWrittenE2h1 EITHER_WRITTEN, "CNTHCTL write, E2H 1 without ECV: its fields, else 0";
+    CnthctlWrittenE2h1Ecv EITHER_WRITTEN, "CNTHCTL write, E2H 1 with ECV: its fields, else 0";
+    ReservedWritten EITHER_WRITTEN, "control write, a reserved bit 1: stored as 0";
+    UpperHalfWritten EITHER_WRITTEN, "control write, bits 63..32 not 0: dropped";
+    CntkctlRead CNTKCTL_READ, "CNTKCTL read: the 32 bits held";
+    CnthctlRead EITHER_READ, "CNTHCTL read: the 32 bits held";
+    ReservedRead EITHER_READ, "control read, a reserved bit held: as it is";
+    CntpoffRead Scope::Once, "CNTPOFF read whole";
+    CntpoffWritten Scope::Once, "CNTPOFF written whole";
 }
 
 #[cfg(test)]

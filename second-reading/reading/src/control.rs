@@ -2,7 +2,7 @@
 
 use std::fmt;
 
-use crate::state::State;
+use crate::state::ControlName;
 
 macro_rules! controls {
     ($($control:ident $register:ident $name:literal $place:literal;)*) => {
@@ -19,47 +19,45 @@ macro_rules! controls {
                 match self { $(Control::$control => $place,)* }
             }
 
-            /// The value of the register that it stands in.
-            pub(crate) fn register(self, state: &State) -> u32 {
-                match self { $(Control::$control => state.$register,)* }
+            /// The register that it stands in.
+            pub fn register(self) -> ControlName {
+                match self { $(Control::$control => ControlName::$register,)* }
             }
 
-            /// The names of the register and of the bit.
-            fn names(self) -> (&'static str, &'static str) {
-                match self { $(Control::$control => (stringify!($register), $name),)* }
+            pub(crate) fn name(self) -> &'static str {
+                match self { $(Control::$control => $name,)* }
             }
         }
     };
 }
 
 controls! {
-    CntkctlEl0pcten cntkctl "EL0PCTEN" 0;
-    CntkctlEl0vcten cntkctl "EL0VCTEN" 1;
-    CntkctlEl0vten cntkctl "EL0VTEN" 8;
-    CntkctlEl0pten cntkctl "EL0PTEN" 9;
+    CntkctlEl0pcten Cntkctl "EL0PCTEN" 0;
+    CntkctlEl0vcten Cntkctl "EL0VCTEN" 1;
+    CntkctlEl0vten Cntkctl "EL0VTEN" 8;
+    CntkctlEl0pten Cntkctl "EL0PTEN" 9;
 
     // With E2H 0.
-    El1pctenE2h0 cnthctl "EL1PCTEN" 0;
-    El1pcen cnthctl "EL1PCEN" 1;
+    El1pctenE2h0 Cnthctl "EL1PCTEN" 0;
+    El1pcen Cnthctl "EL1PCEN" 1;
 
     // With E2H 1.
-    CnthctlEl0pcten cnthctl "EL0PCTEN" 0;
-    CnthctlEl0vcten cnthctl "EL0VCTEN" 1;
-    CnthctlEl0vten cnthctl "EL0VTEN" 8;
-    CnthctlEl0pten cnthctl "EL0PTEN" 9;
-    El1pctenE2h1 cnthctl "EL1PCTEN" 10;
-    El1pten cnthctl "EL1PTEN" 11;
+    CnthctlEl0pcten Cnthctl "EL0PCTEN" 0;
+    CnthctlEl0vcten Cnthctl "EL0VCTEN" 1;
+    CnthctlEl0vten Cnthctl "EL0VTEN" 8;
+    CnthctlEl0pten Cnthctl "EL0PTEN" 9;
+    El1pctenE2h1 Cnthctl "EL1PCTEN" 10;
+    El1pten Cnthctl "EL1PTEN" 11;
 
     // Either way.
-    Ecv cnthctl "ECV" 12;
-    El1tvt cnthctl "EL1TVT" 13;
-    El1tvct cnthctl "EL1TVCT" 14;
+    Ecv Cnthctl "ECV" 12;
+    El1tvt Cnthctl "EL1TVT" 13;
+    El1tvct Cnthctl "EL1TVCT" 14;
 }
 
 impl fmt::Display for Control {
     fn fmt(&self, f: &mut fmt::Formatter<'_>) -> fmt::Result {
-        let (register, name) = self.names();
-        let register = register.to_uppercase();
+        let (register, name) = (self.register().name(), self.name());
         write!(f, "{register}.{name} in bit {}", self.place())
     }
 }

@@ -1,14 +1,15 @@
-//! Document 01, 'What the desk answers': one access, from the refusals to its answer.
+//! Document 01, 'What the desk answers', with document 02's later number: one access, from the
+//! refusals to its answer.
 
 use crate::access::{Access, Answer, Call};
-use crate::clause::Clause::*;
+use crate::clause::Clause::{ReservedBit, Rt31Read};
 use crate::instruction::Direction;
 use crate::pages::{Ruling, Way};
 use crate::reading::Reading;
 use crate::record::Record;
 use crate::refusal::{named, Refusal};
 use crate::register::{Part, Register};
-use crate::state::TimerName;
+use crate::state::{ControlName, TimerName};
 use crate::tally::Cell;
 use crate::values::Masked;
 
@@ -61,9 +62,22 @@ impl Reading<'_> {
             Cntvct | Cntvctss => self.counter(call, self.cntvct(level), Reading::cntvct_value),
             Cntp(part) => self.timer(call, part, self.cntp(level)),
             Cntv(part) => self.timer(call, part, self.cntv(level)),
-            Cntvoff => self.offset(call, self.cntvoff(level)),
+            Cntvoff => self.offset(
+                call,
+                self.cntvoff(level),
+                Reading::read_cntvoff,
+                Reading::write_cntvoff,
+            ),
             Cnthp(part) => self.timer(call, part, self.cnthp(level)),
             Cnthvs(part) => self.timer(call, part, self.cnthvs(level)),
+            Cntkctl => self.control(call, self.cntkctl(level)),
+            Cnthctl => self.control(call, self.cnthctl(level)),
+            Cntpoff => self.offset(
+                call,
+                self.cntpoff(level),
+                Reading::read_cntpoff,
+                Reading::write_cntpoff,
+            ),
         }
     }
 
@@ -80,37 +94,63 @@ impl Reading<'_> {
     }
 
     fn timer(&mut self, call: &Call, part: Part, ruling: Ruling<TimerName>) -> Answer {
-        let instruction = call.instruction;
-        self.settle(call, ruling, |reading, named| {
-            let timer = reading.paper.reached(instruction.register, named);
-            match instruction.direction {
-                Direction::Mrs => reading.read_timer(call, part, timer),
-                Direction::Msr => {
-                    reading.write_timer(call, part, timer);
-                    Masked::default()
-                }
-            }
-        })
+        let paper = self.paper;
+        let reached = |named| paper.reached(call.instruction.register, named);
+        self.either_way(
+            call,
+            ruling,
+            |reading, named| reading.read_timer(call, part, reached(named)),
+            |reading, named| reading.write_timer(call, part, reached(named)),
+        )
     }
 
-    /// CNTVOFF is read and written whole.
-    fn offset(&mut self, call: &Call, ruling: Ruling<()>) -> Answer {
-        self.settle(call, ruling, |reading, ()| {
+    fn control(&mut self, call: &Call, ruling: Ruling<ControlName>) -> Answer {
+        let (paper, state) = (self.paper, self.state);
+        let asked = call.instruction.register;
+        let reached = |named| paper.control_reached(&state, asked, call.level, named);
+        self.either_way(
+            call,
+            ruling,
+            |reading, named| reading.read_control(call, reached(named)),
+            |reading, named| reading.write_control(call, reached(named)),
+        )
+    }
+
+    fn offset(
+        &mut self,
+        call: &Call,
+        ruling: Ruling<()>,
+        read: fn(&mut Self) -> Masked,
+        write: fn(&mut Self, &Call),
+    ) -> Answer {
+        self.either_way(
+            call,
+            ruling,
+            |reading, ()| read(reading),
+            |reading, ()| write(reading, call),
+        )
+    }
+
+    /// Reads or writes what a page allows. A write answers value and mask 0.
+    fn either_way<T>(
+        &mut self,
+        call: &Call,
+        ruling: Ruling<T>,
+        read: impl FnOnce(&mut Self, T) -> Masked,
+        write: impl FnOnce(&mut Self, T),
+    ) -> Answer {
+        self.settle(call, ruling, |reading, target| {
             match call.instruction.direction {
-                Direction::Mrs => {
-                    reading.note(CntvoffRead, Cell::Whole);
-                    Masked::known(reading.state.cntvoff)
-                }
+                Direction::Mrs => read(reading, target),
                 Direction::Msr => {
-                    reading.note(CntvoffWritten, Cell::Whole);
-                    reading.state.cntvoff = reading.operand(call);
+                    write(reading, target);
                     Masked::default()
                 }
             }
         })
     }
 
-    /// Follows the way that a page came to. 0 to 3 give the word's Rt.
+    /// Follows the way that a page came to. 0 to 3 give the word's Rt, and so does a later trap.
     fn settle<T>(
         &mut self,
         call: &Call,
@@ -123,6 +163,7 @@ impl Reading<'_> {
             Way::Undefined => Answer::number(1, rt),
             Way::TrapToEl1 => Answer::number(2, rt),
             Way::TrapToEl2 => Answer::number(3, rt),
+            Way::TrapToEl3 => Answer::number(10, rt),
             Way::Allowed(target) => {
                 let Masked { value, mask } = access(self, target);
                 Answer {

@@ -1,4 +1,4 @@
-//! Document 01, sentence by sentence, under its headings.
+//! Document 01, sentence by sentence, under its headings, and what document 02 adds.
 //!
 //! The rules in the other files are made of these. Each sentence is a method, so that a deliberate
 //! misreading can put another in its place; the rules know of none.
@@ -6,10 +6,11 @@
 use crate::access::Answer;
 use crate::clause::Clause;
 use crate::control::Control;
+use crate::fields::Layout;
 use crate::reading::Reading;
 use crate::record::{Record, RECORD_LIMIT};
 use crate::register::Register;
-use crate::state::{Level, State, Timer, TimerName};
+use crate::state::{ControlName, Level, State, Timer, TimerName};
 use crate::values::{Masked, ENABLE, IMASK, ISTATUS};
 
 /// The paper as it is written.
@@ -28,7 +29,7 @@ pub trait Paper {
 
     /// Whether a control bit is 1.
     fn bit(&self, state: &State, control: Control) -> bool {
-        control.register(state) >> self.place(control) & 1 == 1
+        state.control(control.register()) >> self.place(control) & 1 == 1
     }
 
     /// **EL2 on**: NS is 1, or SEL2 and EEL2 are 1.
@@ -178,5 +179,49 @@ pub trait Paper {
     /// A refused record doesn't stop the run.
     fn goes_on_after(&self, _answer: &Answer) -> bool {
         true
+    }
+
+    // Document 02, request 1: 'Control registers by access'
+
+    /// The control register that a rule names is the one that an access to the register reaches.
+    fn control_reached(
+        &self,
+        _state: &State,
+        _asked: Register,
+        _level: Level,
+        named: ControlName,
+    ) -> ControlName {
+        named
+    }
+
+    /// A write of CNTKCTL_EL1 at EL2 with E2H 1 is a write of CNTHCTL and keeps CNTHCTL's bits;
+    /// CNTHCTL has those of the E2H at the moment of the write.
+    fn layout(&self, state: &State, _asked: Register, reached: ControlName) -> Layout {
+        Layout::of(reached, state.e2h)
+    }
+
+    /// A write stores the bits that Arm's pages name for the features modelled.
+    fn stored_bits(&self, layout: Layout, ecv: bool) -> u32 {
+        layout.bits(ecv)
+    }
+
+    /// A bit that those pages reserve is stored as 0, whatever was held; bits 63..32 are dropped.
+    fn control_written(&self, _held: u32, stored: u32, operand: u64) -> u32 {
+        operand as u32 & stored
+    }
+
+    /// A read gives the 32 bits that the state holds, as they are, also reserved ones.
+    fn control_read(&self, held: u32, _stored: u32) -> u64 {
+        u64::from(held)
+    }
+
+    /// CNTPOFF is read whole.
+    fn cntpoff(&self, state: &State) -> u64 {
+        state.cntpoff
+    }
+
+    /// CNTPOFF is written whole.
+    fn write_cntpoff(&self, state: &mut State, operand: u64) {
+        state.cntpoff = operand;
     }
 }

@@ -1,4 +1,4 @@
-//! Document 01, 'Instruction words and register names': the name table.
+//! Document 01, 'Instruction words and register names', and document 02, request 1: the name table.
 
 use crate::listed::listed;
 
@@ -23,6 +23,9 @@ listed! {
         Cntvoff,
         Cnthp(Part),
         Cnthvs(Part),
+        Cntkctl,
+        Cnthctl,
+        Cntpoff,
     }
 }
 
@@ -41,6 +44,9 @@ impl Register {
             Cntvoff => (4, 0, 3),
             Cnthp(part) => (4, 2, part.op2()),
             Cnthvs(part) => (4, 4, part.op2()),
+            Cntkctl => (0, 1, 0),
+            Cnthctl => (4, 1, 0),
+            Cntpoff => (4, 0, 6),
         }
     }
 
@@ -55,6 +61,9 @@ impl Register {
             Cntvoff => "CNTVOFF_EL2".to_string(),
             Cnthp(part) => format!("CNTHP_{}_EL2", part.name()),
             Cnthvs(part) => format!("CNTHVS_{}_EL2", part.name()),
+            Cntkctl => "CNTKCTL_EL1".to_string(),
+            Cnthctl => "CNTHCTL_EL2".to_string(),
+            Cntpoff => "CNTPOFF_EL2".to_string(),
         }
     }
 
@@ -62,21 +71,24 @@ impl Register {
     pub fn part(self) -> Option<Part> {
         match self {
             Cntp(part) | Cntv(part) | Cnthp(part) | Cnthvs(part) => Some(part),
-            Cntpct | Cntvct | Cntpctss | Cntvctss | Cntvoff => None,
+            Cntpct | Cntvct | Cntpctss | Cntvctss => None,
+            Cntvoff | Cntkctl | Cnthctl | Cntpoff => None,
         }
     }
 
     pub(crate) fn is_counter(self) -> bool {
         match self {
             Cntpct | Cntvct | Cntpctss | Cntvctss => true,
-            Cntp(_) | Cntv(_) | Cntvoff | Cnthp(_) | Cnthvs(_) => false,
+            Cntp(_) | Cntv(_) | Cnthp(_) | Cnthvs(_) => false,
+            Cntvoff | Cntkctl | Cnthctl | Cntpoff => false,
         }
     }
 
     pub(crate) fn is_ss_form(self) -> bool {
         match self {
             Cntpctss | Cntvctss => true,
-            Cntpct | Cntvct | Cntp(_) | Cntv(_) | Cntvoff | Cnthp(_) | Cnthvs(_) => false,
+            Cntpct | Cntvct | Cntp(_) | Cntv(_) | Cnthp(_) | Cnthvs(_) => false,
+            Cntvoff | Cntkctl | Cnthctl | Cntpoff => false,
         }
     }
 }
@@ -104,7 +116,7 @@ mod tests {
     use super::*;
 
     #[test]
-    fn the_table_has_its_seventeen_names_in_its_order() {
+    fn the_table_has_its_seventeen_names_and_request_1_three_more() {
         let names: Vec<String> = Register::all().map(Register::name).collect();
         assert_eq!(
             names,
@@ -126,6 +138,9 @@ mod tests {
                 "CNTHVS_TVAL_EL2",
                 "CNTHVS_CTL_EL2",
                 "CNTHVS_CVAL_EL2",
+                "CNTKCTL_EL1",
+                "CNTHCTL_EL2",
+                "CNTPOFF_EL2",
             ]
         );
     }

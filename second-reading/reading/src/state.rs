@@ -44,6 +44,23 @@ impl TimerName {
     }
 }
 
+listed! {
+    /// The two registers of control bits.
+    pub enum ControlName {
+        Cntkctl,
+        Cnthctl,
+    }
+}
+
+impl ControlName {
+    pub fn name(self) -> &'static str {
+        match self {
+            ControlName::Cntkctl => "CNTKCTL",
+            ControlName::Cnthctl => "CNTHCTL",
+        }
+    }
+}
+
 /// One timer's registers.
 #[derive(Clone, Copy, Debug, Default, PartialEq, Eq)]
 pub struct Timer {
@@ -80,6 +97,20 @@ impl State {
             cntkctl: 0x303,
             cntvoff: 400,
             ..State::default()
+        }
+    }
+
+    pub fn control(&self, name: ControlName) -> u32 {
+        match name {
+            ControlName::Cntkctl => self.cntkctl,
+            ControlName::Cnthctl => self.cnthctl,
+        }
+    }
+
+    pub fn control_mut(&mut self, name: ControlName) -> &mut u32 {
+        match name {
+            ControlName::Cntkctl => &mut self.cntkctl,
+            ControlName::Cnthctl => &mut self.cnthctl,
         }
     }
 

@@ -1,47 +1,9 @@
 //! The rules that the readings from the bench do not touch.
 
-use reading::{Access, Answer, Direction, Instruction, Part, Reading, Register, State, TimerName};
+mod common;
 
-struct Bench {
-    reading: Reading<'static>,
-}
-
-impl Bench {
-    fn of(state: State) -> Bench {
-        Bench {
-            reading: Reading::new(state),
-        }
-    }
-
-    fn read(&mut self, register: Register, level: u8, count: u64) -> Answer {
-        self.ask(Direction::Mrs, register, level, 0, count)
-    }
-
-    fn write(&mut self, register: Register, level: u8, operand: u64, count: u64) -> Answer {
-        self.ask(Direction::Msr, register, level, operand, count)
-    }
-
-    fn ask(
-        &mut self,
-        direction: Direction,
-        register: Register,
-        level: u8,
-        operand: u64,
-        count: u64,
-    ) -> Answer {
-        let instruction = Instruction {
-            direction,
-            register,
-            rt: 9,
-        };
-        self.reading.access(&Access {
-            word: instruction.word(),
-            level,
-            operand,
-            count,
-        })
-    }
-}
+use common::Bench;
+use reading::{Access, Direction, Instruction, Part, Reading, Register, State, TimerName};
 
 /// A guest with its own physical offset: offset on, all gates open.
 fn with_offset() -> State {

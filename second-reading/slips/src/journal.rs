@@ -51,6 +51,6 @@ struct RefusalEndsRun;
 
 impl Paper for RefusalEndsRun {
     fn goes_on_after(&self, answer: &Answer) -> bool {
-        answer.number < 4
+        !(4..=6).contains(&answer.number)
     }
 }

@@ -5,7 +5,7 @@ use reading::{Clause, Paper};
 use crate::Slip;
 
 /// Those that a journal can miss.
-const OF_JOURNALS: [Clause; 66] = [
+const OF_JOURNALS: [Clause; 74] = [
     Clause::JournalRagged,
     Clause::ReservedBit,
     Clause::E2hWithoutVhe,
@@ -72,6 +72,14 @@ const OF_JOURNALS: [Clause; 66] = [
     Clause::LinesEcvenWithoutEcv,
     Clause::LinesCnthctlWithoutEcv,
     Clause::LineMasked,
+    Clause::CntkctlEl0,
+    Clause::CntkctlEl2E2h,
+    Clause::CnthctlEl0,
+    Clause::CnthctlEl1,
+    Clause::CntpoffMissing,
+    Clause::CntpoffEl0,
+    Clause::CntpoffEl1,
+    Clause::CntpoffEl2Ecven,
 ];
 
 pub(crate) fn slips() -> Vec<Slip> {

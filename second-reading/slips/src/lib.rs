@@ -8,12 +8,17 @@ use std::fmt;
 use reading::Paper;
 
 mod buffer;
+mod control_gates;
+mod control_values;
+mod fields;
 mod impostors;
 mod journal;
 mod left_out;
 mod machine;
 mod moved;
+mod redirection;
 mod seen;
+mod stale;
 mod values;
 
 /// A misreading of the paper.
@@ -51,6 +56,11 @@ pub fn of_journals() -> Vec<Slip> {
         impostors::slips(),
         left_out::slips(),
         moved::slips(),
+        control_gates::slips(),
+        redirection::slips(),
+        control_values::slips(),
+        fields::slips(),
+        stale::slips(),
     ];
     each.into_iter().flatten().collect()
 }

@@ -18,13 +18,14 @@ struct Asked {
     level: u8,
 }
 
-const ASKED: [Asked; 8] = [
+const ASKED: [Asked; 9] = [
     asked("MRS CNTVCT_EL0 at EL1, done", 0xD53B_E040, 1),
     asked("MRS CNTV_CTL_EL0 at EL1, done", 0xD53B_E320, 1),
     asked("MSR CNTV_TVAL_EL0 at EL1, done", 0xD51B_E301, 1),
     asked("MRS CNTPCT_EL0 at EL1, trap to EL2", 0xD53B_E020, 1),
     asked("MRS CNTVCT_EL0 at EL0, done", 0xD53B_E040, 0),
     asked("MSR CNTHP_CVAL_EL2 at EL2, done", 0xD51C_E241, 2),
+    asked("MSR CNTKCTL_EL1 at EL1, done", 0xD518_E101, 1),
     asked("MRS CNTHVS_CVAL_EL2 at EL1, Undefined", 0xD53C_E440, 1),
     asked("no timer access", 0xD503_201F, 1),
 ];

@@ -1,11 +1,15 @@
-//! Document 01, 'Who may touch what': one page for each register family.
+//! Document 01, 'Who may touch what', and document 02, request 1: one page for each register
+//! family.
 //!
 //! Rules are tried in order; the first that fits decides. Each stands with the clause that has it.
 
+mod cnthctl;
 mod cnthp;
 mod cnthvs;
+mod cntkctl;
 mod cntp;
 mod cntpct;
+mod cntpoff;
 mod cntv;
 mod cntvct;
 mod cntvoff;

@@ -8,6 +8,7 @@ pub(crate) enum Way<T> {
     Undefined,
     TrapToEl1,
     TrapToEl2,
+    TrapToEl3,
     Allowed(T),
 }
 
