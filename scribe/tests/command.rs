@@ -41,9 +41,11 @@ fn text_packed_and_shown_is_the_same_text() {
                 EL1 MSR CNTV_TVAL_EL0, X1 = 0xFFFFFFFF @ 1000\n\
                 EL0 MSR CNTV_CVAL_EL0, XZR = 77 @ 0xFFFFFFFFFFFFFFFF\n\
                 EL3 MRS XZR, CNTHVS_CTL_EL2 = 5 @ 0\n\
+                EL1 MRS X2, CNTKCTL_EL1 @ 1000\n\
+                EL2 MSR CNTPOFF_EL2, X30 = 0xFFFFFFFFFFFFFFFB @ 1000\n\
                 WORD 0xD53BE000 EL2 = 0 @ 1000 RESERVED 0x3FFFFFFF\n";
     let journal = done(scribe(&["pack"], text.as_bytes()));
-    assert_eq!(journal.len(), 5 * RECORD_BYTES);
+    assert_eq!(journal.len(), 7 * RECORD_BYTES);
     let shown = done(scribe(&["show", "--journal", "-"], &journal));
     assert_eq!(String::from_utf8_lossy(&shown), text);
 }
