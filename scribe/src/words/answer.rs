@@ -32,7 +32,7 @@ pub fn lone_answer(answer: &Answer) -> String {
 
 /// Only what is done, Undefined or a trap gives the word's Rt.
 fn gives_rt(answer: &Answer) -> bool {
-    answer.number <= 3
+    matches!(answer.number, 0..=3 | 10)
 }
 
 fn odd_rt(answer: &Answer) -> String {
@@ -55,6 +55,7 @@ fn verdict(answer: &Answer, instruction: Option<Instruction>) -> String {
         4 => "refused, 4: not MRS or MSR, or not in the name table".to_string(),
         5 => "refused, 5: impossible context".to_string(),
         6 => "refused, 6: reserved bit set".to_string(),
+        10 => "trap to EL3, class 0x18".to_string(),
         other => format!("number {other}, which no record is answered with"),
     };
     match (answer.value, answer.mask) {
@@ -124,6 +125,7 @@ mod tests {
     const CNTVCT: u32 = 0xD53B_E040;
     const CNTV_CTL: u32 = 0xD53B_E320;
     const CNTV_TVAL_WRITTEN: u32 = 0xD51B_E300;
+    const CNTPOFF: u32 = 0xD53C_E0C0;
 
     fn done_with(value: u64, mask: u64) -> Answer {
         Answer {
@@ -166,6 +168,7 @@ mod tests {
         assert_eq!(said(done_with(0, 0), CNTV_TVAL_WRITTEN), "done");
         assert_eq!(said(number_only(1), CNTVCT), "Undefined");
         assert_eq!(said(number_only(3), CNTVCT), "trap to EL2, class 0x18");
+        assert_eq!(said(number_only(10), CNTPOFF), "trap to EL3, class 0x18");
         assert_eq!(
             said(number_only(5), CNTVCT),
             "refused, 5: impossible context"
@@ -190,12 +193,20 @@ mod tests {
             "refused, 4: not MRS or MSR, or not in the name table [value 1, mask 2] [Rt 3] [padding 9]"
         );
         assert_eq!(answer(&done_with(5, 0), CNTVCT | 7), "done 5 [Rt 0]");
+        assert_eq!(
+            answer(&number_only(10), CNTPOFF | 7),
+            "trap to EL3, class 0x18 [Rt 0]"
+        );
         assert!(answer(&number_only(9), 0).contains("number 9"));
     }
 
     #[test]
     fn an_answer_alone_has_its_rt() {
         assert_eq!(lone_answer(&done_with(600, 0)), "done 600, Rt 0");
+        assert_eq!(
+            lone_answer(&number_only(10)),
+            "trap to EL3, class 0x18, Rt 0"
+        );
         assert_eq!(lone_answer(&number_only(6)), "refused, 6: reserved bit set");
     }
 }
