@@ -59,6 +59,11 @@ impl Register {
     pub(crate) fn is_ctl(self) -> bool {
         self.name.contains("_CTL_")
     }
+
+    /// Whether its fields are read out of its digits, so that these are hexadecimal.
+    pub(crate) fn is_control(self) -> bool {
+        matches!(self.name, "CNTKCTL_EL1" | "CNTHCTL_EL2")
+    }
 }
 
 #[cfg(test)]

@@ -3,7 +3,7 @@
 use crate::fields::Change;
 use crate::instruction::{Direction, Instruction};
 use crate::state::TIMERS;
-use crate::words::number;
+use crate::words::{held_in, number};
 use crate::written::Lines;
 
 use super::desk::Reading;
@@ -101,7 +101,7 @@ fn instruction(word: u32) -> String {
 
 /// What the record left in each field that it changed.
 pub(super) fn moved(moment: &Moment) -> Vec<String> {
-    let told = |change: &Change| format!("{} {}", change.name, number(change.after));
+    let told = |change: &Change| format!("{} {}", change.name, held_in(&change.name, change.after));
     moment.moved.iter().map(told).collect()
 }
 
@@ -114,7 +114,7 @@ pub(super) fn moved_of(moment: &Moment, register: &str) -> Vec<String> {
 
 /// What a change left, without the name of the register.
 pub(super) fn left(change: &Change) -> String {
-    let left = number(change.after);
+    let left = held_in(&change.name, change.after);
     match change.name.part {
         Some(part) => format!("{part} {left}"),
         None => left,

@@ -4,7 +4,7 @@
 use crate::answer::Answer;
 use crate::instruction::{rt_of, Direction, Instruction};
 
-use super::number::{number, value};
+use super::number::{digits, number, value};
 
 /// The bits of a CTL, from bit 0 on.
 const CTL_BITS: [&str; 3] = ["ENABLE", "IMASK", "ISTATUS"];
@@ -67,6 +67,8 @@ fn verdict(answer: &Answer, instruction: Option<Instruction>) -> String {
 fn done(answer: &Answer, instruction: Option<Instruction>) -> String {
     let written = instruction.is_some_and(|i| i.direction == Direction::Msr);
     let is_ctl = instruction.is_some_and(|i| i.register.is_ctl());
+    let is_control = instruction.is_some_and(|i| i.register.is_control());
+    let value = if is_control { digits } else { value };
     match (answer.value, answer.mask) {
         (0, 0) if written => "done".to_string(),
         (0, u64::MAX) => "done, all 64 bits unknown".to_string(),
@@ -126,6 +128,7 @@ mod tests {
     const CNTV_CTL: u32 = 0xD53B_E320;
     const CNTV_TVAL_WRITTEN: u32 = 0xD51B_E300;
     const CNTPOFF: u32 = 0xD53C_E0C0;
+    const CNTKCTL: u32 = 0xD538_E100;
 
     fn done_with(value: u64, mask: u64) -> Answer {
         Answer {
@@ -166,6 +169,8 @@ mod tests {
             "done 0, unknown: bit 0, bits 4 to 7"
         );
         assert_eq!(said(done_with(0, 0), CNTV_TVAL_WRITTEN), "done");
+        assert_eq!(said(done_with(771, 0), CNTKCTL), "done 0x303");
+        assert_eq!(said(done_with(771, 0), CNTPOFF), "done 771");
         assert_eq!(said(number_only(1), CNTVCT), "Undefined");
         assert_eq!(said(number_only(3), CNTVCT), "trap to EL2, class 0x18");
         assert_eq!(said(number_only(10), CNTPOFF), "trap to EL3, class 0x18");

@@ -4,7 +4,7 @@ use crate::control::{bits_of, Bits};
 use crate::fields::{arm_name, registers, FieldName};
 use crate::state::State;
 
-use super::number::number;
+use super::field::held_in;
 use super::COLUMNS;
 
 /// The registers of a state in the order of its image, as Arm calls them, with what they hold.
@@ -31,14 +31,9 @@ fn held(state: &State, register: &str) -> String {
 
 fn field((name, value): (FieldName, u64)) -> String {
     match name.part {
-        Some(part) => format!("{part} {}", number(value)),
-        None if is_control(name.register) && value != 0 => format!("{value:#X}"),
-        None => number(value),
+        Some(part) => format!("{part} {}", held_in(&name, value)),
+        None => held_in(&name, value),
     }
-}
-
-fn is_control(register: &str) -> bool {
-    bits_of(register, false).is_some()
 }
 
 /// What a reader would look up: the fields of a control register, and negative numbers.
