@@ -24,6 +24,9 @@ const EVNTDIR: Bits = kept("EVNTDIR", 3, 1);
 const EVNTI: Bits = kept("EVNTI", 4, 4);
 const EVNTIS: Bits = kept("EVNTIS", 17, 1);
 
+/// Of CNTHCTL, by either layout.
+pub(crate) const ECV: Bits = bit_of_ecv("ECV", 12);
+
 const CNTKCTL: &[Bits] = &[
     bit("EL0PCTEN", 0),
     bit("EL0VCTEN", 1),
@@ -41,7 +44,7 @@ const CNTHCTL_E2H_0: &[Bits] = &[
     EVNTEN,
     EVNTDIR,
     EVNTI,
-    bit_of_ecv("ECV", 12),
+    ECV,
     bit_of_ecv("EL1TVT", 13),
     bit_of_ecv("EL1TVCT", 14),
     kept("EL1NVPCT", 15, 1),
@@ -59,7 +62,7 @@ const CNTHCTL_E2H_1: &[Bits] = &[
     bit("EL0PTEN", 9),
     bit("EL1PCTEN", 10),
     bit("EL1PTEN", 11),
-    bit_of_ecv("ECV", 12),
+    ECV,
     bit_of_ecv("EL1TVT", 13),
     bit_of_ecv("EL1TVCT", 14),
     kept("EL1NVPCT", 15, 1),
