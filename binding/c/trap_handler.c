@@ -104,7 +104,7 @@ int main(void) {
     struct guest guest = {.timers = {.features = {.vhe = true, .sel2 = true},
                                      .controls = {.ns = true, .cntkctl = 0x303},
                                      .cntvoff = 400}};
-    enum { EL0 = 0, EL1 = 1 };
+    enum { EL0, EL1, EL2 };
 
     enum todo read_count = handle(&guest, iss_of(true, 3, 0, 2, 0), EL1, 1000);
     printf("MRS X0, CNTVCT_EL0 at 1000: %s, X0 is %" PRIu64 "\n", words_for(read_count), guest.x[0]);
@@ -129,6 +129,11 @@ int main(void) {
     printf("MSR CNTKCTL_EL1, X4 at 1050: %s, CNTKCTL is %" PRIu32 "\n", words_for(shut), guest.timers.controls.cntkctl);
     enum todo read_from_el0 = handle(&guest, iss_of(true, 3, 0, 2, 0), EL0, 1050);
     printf("MRS X0, CNTVCT_EL0 from EL0 at 1050: %s\n", words_for(read_from_el0));
+
+    /* As if it had an EL2 too, which its EL3 does not let at the offset that came with ECV. */
+    guest.timers.features.ecv = true;
+    enum todo read_offset = handle(&guest, iss_of(true, 4, 0, 6, 5), EL2, 1050);
+    printf("MRS X5, CNTPOFF_EL2 from EL2 at 1050: %s\n", words_for(read_offset));
     printf("resumed %" PRIu64 " times\n", guest.pc / 4);
     return 0;
 }

@@ -49,6 +49,7 @@ impl Todo {
 
 const EL0: u8 = 0;
 const EL1: u8 = 1;
+const EL2: u8 = 2;
 
 impl Guest {
     /// A Non-secure guest whose physical counter and timer are trapped, with its virtual count
@@ -158,6 +159,11 @@ fn main() -> ExitCode {
     println!("MSR CNTKCTL_EL1, X4 at 1050: {todo}, CNTKCTL is {cntkctl}");
     let todo = guest.handle(iss_of(true, 3, 0, 2, 0), EL0, 1050).words();
     println!("MRS X0, CNTVCT_EL0 from EL0 at 1050: {todo}");
+
+    // As if it had an EL2 too, which its EL3 does not let at the offset that came with ECV.
+    guest.timers.features.ecv = true;
+    let todo = guest.handle(iss_of(true, 4, 0, 6, 5), EL2, 1050).words();
+    println!("MRS X5, CNTPOFF_EL2 from EL2 at 1050: {todo}");
     println!("resumed {} times", guest.pc / 4);
     ExitCode::SUCCESS
 }
