@@ -1,4 +1,4 @@
-//! The fields of CNTKCTL_EL1 and CNTHCTL_EL2 by name.
+//! The fields of CNTKCTL_EL1 and CNTHCTL_EL2 by name (RULES, 'Stored bits').
 
 /// A field of a control register.
 #[derive(Clone, Copy, Debug, PartialEq, Eq)]
