@@ -42,7 +42,8 @@ enum elsterkabel_number {
     ELSTERKABEL_IMPOSSIBLE_CONTEXT = 5,
     ELSTERKABEL_RESERVED_BIT_SET = 6, /* in a journal's record */
     ELSTERKABEL_BAD_JOURNAL = 7, /* of a whole run: ragged, or over 1,024 records */
-    ELSTERKABEL_BUFFER_TOO_SHORT = 8 /* of a whole run */
+    ELSTERKABEL_BUFFER_TOO_SHORT = 8, /* of a whole run */
+    ELSTERKABEL_TRAP_TO_EL3 = 10 /* exception class 0x18; of CNTPOFF_EL2 at EL2 alone */
 };
 
 /* A journal's record and its answer have this many bytes; a journal has at most this many records. */
@@ -54,8 +55,13 @@ enum elsterkabel_number {
    Rust's own bool, which safe code can make 0 or 1 alone, and the library stores and returns no other.
 
    Features and controls are those of the machine that the guest is shown, and not of the core that it runs on: bits of
-   CNTHCTL_EL2 that the host sets to trap the guest's virtual timer are no business of its guest. The desk changes
-   neither. What the guest writes without a trap, as CNTKCTL_EL1, the host puts into the state before it asks. */
+   CNTHCTL_EL2 that the host sets to trap the guest's virtual timer are no business of its guest. The desk changes no
+   feature and, of the controls, CNTKCTL and CNTHCTL alone, by a write that is permitted.
+
+   Arm has no trap of CNTKCTL_EL1 from EL1. Where the guest's own instruction reaches the core's register, the host puts
+   what that holds into the state before it asks. Where the host brings the access to the desk by other means, as by an
+   HVC in the instruction's place, the state's is the guest's: after a write the host puts it into the core's register,
+   by which the core judges what EL0 does. */
 struct elsterkabel_features {
     bool vhe;
     bool sel2;
@@ -106,7 +112,7 @@ struct elsterkabel_access {
 
 struct elsterkabel_answer {
     uint8_t number;
-    uint8_t rt; /* the word's Rt where the number is 0 to 3, else 0 */
+    uint8_t rt; /* the word's Rt where the number is 0 to 3 or 10, else 0 */
     uint64_t value; /* what a read gives; unknown bits as 0 */
     uint64_t mask; /* the unknown bits of the value */
 };

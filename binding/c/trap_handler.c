@@ -1,7 +1,7 @@
 /*
  * A trap handler over the answer desk. A guest's access to a timer register has trapped to the hypervisor with
  * exception class 0x18; the handler takes the word from the syndrome, the level, the operand register and the count,
- * calls, and acts on the number. `main` lets a guest arm its virtual timer for 50 ticks.
+ * calls, and acts on the number. `main` lets a guest arm its virtual timer for 50 ticks, and shut its counters to EL0.
  *
  *     tools/library "$(uname -m)"
  *     cc -Ibinding/c binding/c/trap_handler.c target/lib/$(uname -m)/libelsterkabel.a -o target/trap_handler
@@ -24,6 +24,7 @@ enum todo {
     INJECT_UNDEFINED,
     INJECT_TRAP_TO_EL1,
     TRAP_TO_EL2, /* for the guest's own EL2, or the hypervisor's policy where the guest has none */
+    TRAP_TO_EL3, /* for the guest's own EL3, likewise; no guest at EL0 and EL1 comes to it */
     NOT_A_TIMER, /* for another of the hypervisor's devices */
     IMPOSSIBLE_CONTEXT, /* the state or the level cannot be: the hypervisor's own mistake */
 };
@@ -38,6 +39,8 @@ static const char *words_for(enum todo todo) {
         return "inject a trap to EL1";
     case TRAP_TO_EL2:
         return "trap to EL2";
+    case TRAP_TO_EL3:
+        return "trap to EL3";
     case NOT_A_TIMER:
         return "ask another device";
     default:
@@ -51,10 +54,12 @@ static enum todo handle(struct guest *guest, uint32_t iss, uint8_t level, uint64
     uint32_t rt = iss >> 5 & 31;
     bool mrs = iss & 1;
     uint64_t operand = rt == XZR ? 0 : guest->x[rt];
-    /* Where the guest runs on a core, its CNTKCTL_EL1 goes into the state here: it writes that without a trap. */
+    /* Where the guest's own MSR CNTKCTL_EL1 reaches the core, which does not trap it, the core's CNTKCTL_EL1 goes into
+       the state here. */
     struct elsterkabel_access access = {elsterkabel_word_of(iss), level, operand, count};
     struct elsterkabel_answer answer;
     elsterkabel_access_in(&guest->timers, &access, &answer);
+    /* Where that MSR comes here instead, as by an HVC in its place, the state's CNTKCTL goes into the core's here. */
 
     switch (answer.number) {
     case ELSTERKABEL_DONE:
@@ -68,6 +73,8 @@ static enum todo handle(struct guest *guest, uint32_t iss, uint8_t level, uint64
         return INJECT_TRAP_TO_EL1;
     case ELSTERKABEL_TRAP_TO_EL2:
         return TRAP_TO_EL2;
+    case ELSTERKABEL_TRAP_TO_EL3:
+        return TRAP_TO_EL3;
     case ELSTERKABEL_NOT_A_TIMER_ACCESS:
         return NOT_A_TIMER;
     default:
@@ -97,7 +104,7 @@ int main(void) {
     struct guest guest = {.timers = {.features = {.vhe = true, .sel2 = true},
                                      .controls = {.ns = true, .cntkctl = 0x303},
                                      .cntvoff = 400}};
-    enum { EL1 = 1 };
+    enum { EL0, EL1, EL2 };
 
     enum todo read_count = handle(&guest, iss_of(true, 3, 0, 2, 0), EL1, 1000);
     printf("MRS X0, CNTVCT_EL0 at 1000: %s, X0 is %" PRIu64 "\n", words_for(read_count), guest.x[0]);
@@ -116,6 +123,17 @@ int main(void) {
 
     enum todo read_physical = handle(&guest, iss_of(true, 3, 0, 1, 3), EL1, 1050);
     printf("MRS X3, CNTPCT_EL0 at 1050: %s, X3 is %" PRIu64 "\n", words_for(read_physical), guest.x[3]);
+
+    guest.x[4] = 0;
+    enum todo shut = handle(&guest, iss_of(false, 0, 1, 0, 4), EL1, 1050);
+    printf("MSR CNTKCTL_EL1, X4 at 1050: %s, CNTKCTL is %" PRIu32 "\n", words_for(shut), guest.timers.controls.cntkctl);
+    enum todo read_from_el0 = handle(&guest, iss_of(true, 3, 0, 2, 0), EL0, 1050);
+    printf("MRS X0, CNTVCT_EL0 from EL0 at 1050: %s\n", words_for(read_from_el0));
+
+    /* As if it had an EL2 too, which its EL3 does not let at the offset that came with ECV. */
+    guest.timers.features.ecv = true;
+    enum todo read_offset = handle(&guest, iss_of(true, 4, 0, 6, 5), EL2, 1050);
+    printf("MRS X5, CNTPOFF_EL2 from EL2 at 1050: %s\n", words_for(read_offset));
     printf("resumed %" PRIu64 " times\n", guest.pc / 4);
     return 0;
 }

@@ -35,7 +35,7 @@ void create_guest(struct guest *guest, uint64_t lease) {
     load_image();
     *guest = (struct guest){.x = {lease}, .pc = GUEST_BASE, .pstate = EL1H_ALL_MASKED, .timers = timers_at_reset()};
     write_register(SCTLR_EL1, SCTLR_EL1_AT_RESET);
-    write_register(CNTKCTL_EL1, 0);
+    write_register(CNTKCTL_EL1, guest->timers.controls.cntkctl);
     write_register(CNTVOFF_EL2, guest->timers.cntvoff);
     write_register(HCR_EL2, HCR_VM | HCR_IMO | HCR_DC | HCR_TSC | HCR_RW);
     synchronize();

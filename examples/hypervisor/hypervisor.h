@@ -15,7 +15,7 @@ struct guest {
 _Static_assert(offsetof(struct guest, pc) == 31 * 8 && offsetof(struct guest, pstate) == 32 * 8, "as enter.S has them");
 
 /* Why an exception was taken: bits 31 to 26 of its syndrome. */
-enum exception_class { UNKNOWN_REASON = 0, HVC = 0x16, SYSTEM_REGISTER = 0x18 };
+enum exception_class { UNKNOWN_REASON = 0, SVC = 0x15, HVC = 0x16, SYSTEM_REGISTER = 0x18 };
 
 /* start.S: the guest's image, as it begins (guest/calls.h) and where it ends */
 struct image {
@@ -82,8 +82,9 @@ enum what {
     OWN_TIMER,
     LINE_UP,
     LINE_DOWN,
-    GUEST_INTERRUPTED, /* this and the next three are the guest's notes (guest/calls.h), with their numbers */
+    GUEST_INTERRUPTED, /* this and the next four are the guest's notes (guest/calls.h), with their numbers */
     GUEST_LOST_REGISTERS,
+    GUEST_READ_AT_EL0,
     GUEST_TRIED,
     GUEST_FAULTED,
 };

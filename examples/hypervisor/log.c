@@ -29,6 +29,8 @@ static const char *name_of(uint32_t word) {
         return "CNTV_CTL_EL0";
     case CNTV_CVAL_EL0:
         return "CNTV_CVAL_EL0";
+    case CNTKCTL_EL1:
+        return "CNTKCTL_EL1";
     default:
         return "a register that it may not touch";
     }
@@ -61,13 +63,25 @@ static void tell_access(const struct event *event) {
     say(is_read(word) ? "the guest reads " : "the guest writes ");
     say(name_of(word));
     say(": ");
-    say_signed((int64_t)event->second);
+    if (register_of(word) == CNTKCTL_EL1)
+        say_hex(event->second);
+    else
+        say_signed((int64_t)event->second);
+}
+
+static void tell_turn_of_el0(const struct event *event) {
+    say("EL0 tried MRS CNTVCT_EL0: ");
+    if (event->second >> 26 == SVC)
+        say_number(event->first);
+    else
+        tell_syndrome(event->second);
 }
 
 static void tell_refusal(const struct event *event) {
     static const char *const meanings[] = {[ELSTERKABEL_UNDEFINED] = "Undefined",
                                            [ELSTERKABEL_TRAP_TO_EL1] = "trap to EL1",
                                            [ELSTERKABEL_TRAP_TO_EL2] = "trap to EL2",
+                                           [ELSTERKABEL_TRAP_TO_EL3] = "trap to EL3",
                                            [ELSTERKABEL_NOT_A_TIMER_ACCESS] = "not a timer access"};
     say("the desk answers ");
     say_number(event->second);
@@ -94,6 +108,9 @@ static void tell(const struct event *event) {
         break;
     case GUEST_INTERRUPTED:
         say("the guest notes its interrupt");
+        break;
+    case GUEST_READ_AT_EL0:
+        tell_turn_of_el0(event);
         break;
     case GUEST_TRIED:
         say("the guest tried ");

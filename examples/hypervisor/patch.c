@@ -2,8 +2,8 @@
  * How the guest's timer accesses come to EL2.
  *
  * The physical counter and timer trap by CNTHCTL_EL2 on every core. The virtual ones trap by the same register where
- * the core has ECV. On a core without it nothing traps them, so each word of the guest's text that would reach them is
- * replaced by an HVC.
+ * the core has ECV; without it nothing traps them, and CNTKCTL_EL1 nothing traps on any core. Each word of the guest's
+ * text that would reach what is not trapped is replaced by an HVC.
  */
 #include "core.h"
 #include "guest/calls.h"
@@ -18,22 +18,24 @@
 
 static bool core_has_ecv(void) { return read_register(ID_AA64MMFR0_EL1) >> 60 != 0; }
 
-static bool reaches_virtual_timer(uint32_t word) {
+static bool reaches_what_is_not_trapped(uint32_t word, bool ecv) {
     switch (register_of(word)) {
+    case CNTKCTL_EL1:
+        return true;
     case CNTVCT_EL0:
     case CNTV_TVAL_EL0:
     case CNTV_CTL_EL0:
     case CNTV_CVAL_EL0:
-        return true;
+        return !ecv;
     default:
         return false;
     }
 }
 
-static uint64_t patch(uint32_t *text) {
+static uint64_t patch(uint32_t *text, bool ecv) {
     uint64_t patched = 0;
     for (uint32_t i = 0; i < guest_image.text_bytes / 4; i++) {
-        if (reaches_virtual_timer(text[i])) {
+        if (reaches_what_is_not_trapped(text[i], ecv)) {
             text[i] = HVC_WORD(CALL_PATCHED);
             patched++;
         }
@@ -42,15 +44,12 @@ static uint64_t patch(uint32_t *text) {
 }
 
 void trap_timer_accesses(uint32_t *text) {
-    if (core_has_ecv()) {
-        write_register(CNTHCTL_EL2, EL1TVT | EL1TVCT);
-        say("this core has ECV, and traps the guest's virtual timer\n");
-    } else {
-        write_register(CNTHCTL_EL2, 0);
-        say("this core has no ECV: words of the guest's text that are replaced by HVC: ");
-        say_number(patch(text));
-        say("\n");
-    }
+    bool ecv = core_has_ecv();
+    write_register(CNTHCTL_EL2, ecv ? EL1TVT | EL1TVCT : 0);
+    say(ecv ? "this core has ECV, and traps the guest's virtual timer" : "this core has no ECV");
+    say(": words of the guest's text that are replaced by HVC: ");
+    say_number(patch(text, ecv));
+    say("\n");
 }
 
 /* The image itself is not patched, so no table is needed. */

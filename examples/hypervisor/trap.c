@@ -30,13 +30,12 @@ static void log_answer(const struct elsterkabel_access *access, const struct els
 
 /* The guest's pc is at the access, or at what was put in its place. */
 static void answer_access(struct guest *guest, uint32_t word) {
-    /* The guest writes this register without a trap. */
-    guest->timers.controls.cntkctl = (uint32_t)read_register(CNTKCTL_EL1);
-
     struct elsterkabel_access access = {word, level_of(guest), operand_of(guest, word), physical_count()};
     struct elsterkabel_answer answer;
     elsterkabel_access_in(&guest->timers, &access, &answer);
     log_answer(&access, &answer);
+    /* The core judges the guest's EL0 by its own register. */
+    write_register(CNTKCTL_EL1, guest->timers.controls.cntkctl);
 
     switch (answer.number) {
     case ELSTERKABEL_DONE:
@@ -47,6 +46,7 @@ static void answer_access(struct guest *guest, uint32_t word) {
         break;
     case ELSTERKABEL_UNDEFINED:
     case ELSTERKABEL_TRAP_TO_EL2: /* the policy here: the guest has no EL2, and no physical counter and timer */
+    case ELSTERKABEL_TRAP_TO_EL3: /* which is for a guest at EL2 alone */
     case ELSTERKABEL_NOT_A_TIMER_ACCESS: /* and there is no other device to ask */
         inject_undefined(guest);
         break;
@@ -59,9 +59,8 @@ static void answer_access(struct guest *guest, uint32_t word) {
 /* A guest may call with any numbers. */
 static bool take_note(const struct guest *guest) {
     static const enum what meanings[] = {
-        [NOTE_INTERRUPTED] = GUEST_INTERRUPTED,
-        [NOTE_LOST_REGISTERS] = GUEST_LOST_REGISTERS,
-        [NOTE_TRIED] = GUEST_TRIED,
+        [NOTE_INTERRUPTED] = GUEST_INTERRUPTED, [NOTE_LOST_REGISTERS] = GUEST_LOST_REGISTERS,
+        [NOTE_READ_AT_EL0] = GUEST_READ_AT_EL0, [NOTE_TRIED] = GUEST_TRIED,
         [NOTE_FAULTED] = GUEST_FAULTED,
     };
     uint64_t note = guest->x[0];

@@ -58,6 +58,45 @@ static bool readings_are_right(const struct event *const steps[STEPS], uint64_t 
     return right;
 }
 
+/* CNTKCTL. */
+enum { EL0VCTEN = 1 << 1, KEPT_WITHOUT_ECV = 0x3FF };
+
+static bool is_turn_ended_by(const struct event *event, enum exception_class reason) {
+    return event->what == GUEST_READ_AT_EL0 && event->second >> 26 == reason;
+}
+
+/* With the count as it was in its turn, which is after the write that opened it and before the guest's note. */
+static bool el0_read(const struct event *event, const struct event *written, uint64_t cntvoff) {
+    uint64_t count = event->first + cntvoff;
+    return is_turn_ended_by(event, SVC) && written->count <= count && count <= event->count;
+}
+
+static bool el0_was_trapped(const struct event *event) {
+    uint32_t word = elsterkabel_word_of((uint32_t)event->second);
+    return is_turn_ended_by(event, SYSTEM_REGISTER) && is_read(word) && register_of(word) == CNTVCT_EL0;
+}
+
+/* EL0 had two turns: it read where CNTKCTL was last written to open the count, and was trapped where not. */
+static bool el0_was_ruled(const struct event *lease_over, uint64_t cntvoff) {
+    const struct event *written = lease_over; /* whose second number is 0: nothing is open yet */
+    uint64_t turns = 0, reads = 0, traps = 0;
+    bool kept = true;
+    for (const struct event *event = lease_over; event < past_last_event(); event++) {
+        if (is_access(event, CNTKCTL_EL1, false))
+            written = event;
+        if (is_access(event, CNTKCTL_EL1, true))
+            kept &= event->second == (written->second & KEPT_WITHOUT_ECV);
+        bool open = written->second & EL0VCTEN;
+        turns += event->what == GUEST_READ_AT_EL0;
+        reads += open && el0_read(event, written, cntvoff);
+        traps += !open && el0_was_trapped(event);
+    }
+    bool right = kept && turns == 2 && reads == 1 && traps == 1;
+    say(right ? "EL0 read the count while its kernel had it open, and was trapped while it was shut\n"
+              : "EL0 did NOT get what its kernel had opened and shut\n");
+    return right;
+}
+
 /* Every attempt, in the order of the list, and Undefined came of each. */
 static bool attempts_failed(const struct event *lease_over) {
 #define ONE(name, instruction) +1
@@ -118,7 +157,10 @@ bool went_as_expected(const struct guest *guest) {
     bool leases = true;
     for (size_t i = 0; i < LEASES; i++)
         leases &= lease_is_right(steps + i * STEPS, guest->timers.cntvoff);
-    bool attempts = attempts_failed(steps[LEASES * STEPS - 1]);
-    say(leases && attempts ? "all as expected\n" : "NOT as expected\n");
-    return leases && attempts;
+    const struct event *over = steps[LEASES * STEPS - 1];
+    bool el0 = el0_was_ruled(over, guest->timers.cntvoff);
+    bool attempts = attempts_failed(over);
+    bool all = leases && el0 && attempts;
+    say(all ? "all as expected\n" : "NOT as expected\n");
+    return all;
 }

@@ -78,6 +78,15 @@ mod tests {
     }
 
     #[test]
+    fn control_registers_are_asked_by_words_of_their_own() {
+        let mrs = |name| Some((Direction::Mrs, name, 0));
+        assert_eq!(parts(0xD538_E100), mrs("CNTKCTL_EL1"));
+        assert_eq!(parts(0xD53C_E100), mrs("CNTHCTL_EL2"));
+        assert_eq!(parts(0xD53C_E0C0), mrs("CNTPOFF_EL2"));
+        assert_eq!(parts(0xD53D_E100), None, "CNTKCTL_EL12");
+    }
+
+    #[test]
     fn a_word_that_misses_by_a_bit_asks_nothing_or_something_else() {
         let word = 0xD53B_E040;
         for bit in 0..32 {

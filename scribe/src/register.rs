@@ -7,7 +7,7 @@ pub(crate) struct Register {
     pub(crate) encoding: (u32, u32, u32),
 }
 
-const REGISTERS: [Register; 17] = [
+const REGISTERS: [Register; 20] = [
     register("CNTPCT_EL0", 3, 0, 1),
     register("CNTVCT_EL0", 3, 0, 2),
     register("CNTPCTSS_EL0", 3, 0, 5),
@@ -25,6 +25,9 @@ const REGISTERS: [Register; 17] = [
     register("CNTHVS_TVAL_EL2", 4, 4, 0),
     register("CNTHVS_CTL_EL2", 4, 4, 1),
     register("CNTHVS_CVAL_EL2", 4, 4, 2),
+    register("CNTKCTL_EL1", 0, 1, 0),
+    register("CNTHCTL_EL2", 4, 1, 0),
+    register("CNTPOFF_EL2", 4, 0, 6),
 ];
 
 const fn register(name: &'static str, op1: u32, crm: u32, op2: u32) -> Register {
@@ -55,6 +58,11 @@ impl Register {
     /// Whether its bits are ENABLE, IMASK and ISTATUS.
     pub(crate) fn is_ctl(self) -> bool {
         self.name.contains("_CTL_")
+    }
+
+    /// Whether its fields are read out of its digits, so that these are hexadecimal.
+    pub(crate) fn is_control(self) -> bool {
+        matches!(self.name, "CNTKCTL_EL1" | "CNTHCTL_EL2")
     }
 }
 

@@ -41,9 +41,13 @@ fn text_packed_and_shown_is_the_same_text() {
                 EL1 MSR CNTV_TVAL_EL0, X1 = 0xFFFFFFFF @ 1000\n\
                 EL0 MSR CNTV_CVAL_EL0, XZR = 77 @ 0xFFFFFFFFFFFFFFFF\n\
                 EL3 MRS XZR, CNTHVS_CTL_EL2 = 5 @ 0\n\
+                EL1 MRS X2, CNTKCTL_EL1 @ 1000\n\
+                EL1 MSR CNTKCTL_EL1, X2 = 0x303 @ 1000\n\
+                EL2 MSR CNTHCTL_EL2, X2 = 0x802 @ 1000\n\
+                EL2 MSR CNTPOFF_EL2, X30 = 771 @ 1000\n\
                 WORD 0xD53BE000 EL2 = 0 @ 1000 RESERVED 0x3FFFFFFF\n";
     let journal = done(scribe(&["pack"], text.as_bytes()));
-    assert_eq!(journal.len(), 5 * RECORD_BYTES);
+    assert_eq!(journal.len(), 9 * RECORD_BYTES);
     let shown = done(scribe(&["show", "--journal", "-"], &journal));
     assert_eq!(String::from_utf8_lossy(&shown), text);
 }
@@ -58,7 +62,8 @@ fn every_journal_comes_back_from_its_text() {
         }
         if round % 2 == 0 {
             let half = (round / 2) as u32;
-            let word = 0xD51B_E200 | (half & 1) << 21 | (half % 128);
+            let family = [0xD51B_E200, 0xD518_E100, 0xD51C_E000][half as usize % 3];
+            let word = family | (half & 1) << 21 | (half % 256);
             bytes[..4].copy_from_slice(&word.to_be_bytes());
         }
         let text = scribe::words::record(&Record::unpack(&bytes));

@@ -102,12 +102,14 @@ fn the_end_of_a_run_is_told_by_what_differs_and_the_lines() {
     let journal = Scratch::new("end.journal", &record.pack());
     let end = |written: &[u8]| scribe(&["end", first.path(), journal.path(), "-"], written);
     let mut last = State::bench();
+    last.cntkctl = 0x301;
     last.timers[1].cval = u64::MAX;
     last.timers[1].enable = true;
     let told = done(end(&written(&last, [0, 2])));
     assert_eq!(
         String::from_utf8_lossy(&told),
         "the final state, where it differs from the first:\n  \
+         CNTKCTL: 0x303 -> 0x301\n  \
          CNTV CVAL: 0 -> 0xFFFFFFFFFFFFFFFF\n  \
          CNTV ENABLE: 0 -> 1\n\
          lines at count 1500: up: CNTV\n"

@@ -5,6 +5,7 @@
 #include <stdalign.h>
 #include <stdio.h>
 
+#define NUMBER(name) printf(#name " %d\n", ELSTERKABEL_##name)
 #define TYPE(name, type) printf(#name " size %zu align %zu\n", sizeof(struct type), alignof(struct type))
 #define FIELD(name, type, field) printf(#name "." #field " at %zu\n", offsetof(struct type, field))
 
@@ -20,6 +21,9 @@
 int main(void) {
     printf("VERSION %d\nRECORD_BYTES %d\nRECORD_LIMIT %d\n", ELSTERKABEL_VERSION, ELSTERKABEL_RECORD_BYTES,
            ELSTERKABEL_RECORD_LIMIT);
+    NUMBER(DONE), NUMBER(UNDEFINED), NUMBER(TRAP_TO_EL1), NUMBER(TRAP_TO_EL2), NUMBER(NOT_A_TIMER_ACCESS);
+    NUMBER(IMPOSSIBLE_CONTEXT), NUMBER(RESERVED_BIT_SET), NUMBER(BAD_JOURNAL), NUMBER(BUFFER_TOO_SHORT);
+    NUMBER(TRAP_TO_EL3);
     TYPE(Features, elsterkabel_features);
     FEATURES(vhe), FEATURES(sel2), FEATURES(ecv);
     TYPE(Controls, elsterkabel_controls);

@@ -1,6 +1,7 @@
 /*
- * What a journal on standard input cannot ask: levels above 3, an answer buffer that is too short or too long, and that
- * refusals leave the lent state and every lent byte as they were. The expected values are those of docs/RULES.md.
+ * What a journal on standard input cannot ask: levels above 3, a trap to EL3, for which the state that `board` starts
+ * from has no ECV, an answer buffer that is too short or too long, and that refusals leave the lent state and every
+ * lent byte as they were. The expected values are those of docs/RULES.md.
  */
 #include "image.h"
 
@@ -10,6 +11,7 @@ enum { RECORD = ELSTERKABEL_RECORD_BYTES, LIMIT = ELSTERKABEL_RECORD_LIMIT, UNTO
 
 static const uint32_t MRS_CNTVCT = 0xD53BE040;
 static const uint32_t MSR_CNTV_TVAL_X1 = 0xD51BE301;
+static const uint32_t MSR_CNTPOFF_X2 = 0xD51CE0C2;
 
 static int failed;
 
@@ -82,6 +84,15 @@ static void levels(void) {
     check("and the state stays", same_state(state, start()));
 }
 
+static void a_trap_to_el3(void) {
+    struct elsterkabel_state state = start();
+    state.features.ecv = true;
+    struct elsterkabel_state before = state;
+    check("CNTPOFF at EL2 with ECVEn 0 gets 10 and Rt 2",
+          answers_with(&state, MSR_CNTPOFF_X2, 2, 77, ELSTERKABEL_TRAP_TO_EL3, 2, 0));
+    check("and the state stays", same_state(state, before));
+}
+
 static void a_write(void) {
     struct elsterkabel_state state = start(), moved = start();
     moved.timers.cntv.cval = 599;
@@ -127,6 +138,7 @@ int main(void) {
     for (size_t at = 0; at < sizeof journal; at += RECORD)
         memcpy(journal + at, RECORD_4, RECORD);
     levels();
+    a_trap_to_el3();
     a_write();
     a_run();
     refusals();

@@ -19,10 +19,18 @@
 //!
 //! It asks [`version`] first, and goes no further if that is not [`VERSION`]. Features and controls of
 //! a state are those of the machine that the guest is shown, and not of the core that it runs on. The
-//! desk changes neither: what the guest writes without a trap, as CNTKCTL_EL1, the host puts into the
-//! state before it asks. On bare metal, for aarch64, what is lent and the stack are Normal memory, and
-//! SCTLR_ELx.A is 0, since the archive makes unaligned accesses; it needs under 2 KiB of stack beside
-//! what `memcpy` takes, and uses neither x18 nor a register for floating point and vectors.
+//! desk changes no feature and, of the controls, CNTKCTL and CNTHCTL alone, by a write that is
+//! permitted.
+//!
+//! Arm has no trap of CNTKCTL_EL1 from EL1. Where the guest's own instruction reaches the core's
+//! register, the host puts what that holds into the state before it asks. Where the host brings the
+//! access to the desk by other means, as by an HVC in the instruction's place, the state's is the
+//! guest's: after a write the host puts it into the core's register, by which the core judges what EL0
+//! does.
+//!
+//! On bare metal, for aarch64, what is lent and the stack are Normal memory, and SCTLR_ELx.A is 0,
+//! since the archive makes unaligned accesses; it needs under 2 KiB of stack beside what `memcpy`
+//! takes, and uses neither x18 nor a register for floating point and vectors.
 //!
 //! # Linking
 //!

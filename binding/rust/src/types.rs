@@ -16,6 +16,8 @@ pub mod number {
     pub const BAD_JOURNAL: u8 = 7;
     /// Of a whole run.
     pub const BUFFER_TOO_SHORT: u8 = 8;
+    /// Exception class 0x18; of CNTPOFF_EL2 at EL2 alone.
+    pub const TRAP_TO_EL3: u8 = 10;
 }
 
 /// The interface that these types are of. A host holds it against [`version`](crate::version)
@@ -107,7 +109,7 @@ pub struct Access {
 pub struct Answer {
     /// One of [`number`].
     pub number: u8,
-    /// The word's Rt where the number is 0 to 3, else 0.
+    /// The word's Rt where the number is 0 to 3 or 10, else 0.
     pub rt: u8,
     /// What a read gives; unknown bits as 0.
     pub value: u64,

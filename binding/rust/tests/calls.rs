@@ -1,5 +1,6 @@
-//! The wrapper calls the archive: readings from the bench, a run and its two refusals, levels
-//! that no journal can hold, and the lines. What is expected stands in docs/RULES.md.
+//! The wrapper calls the archive: readings from the bench, control registers, a run and its two
+//! refusals, levels that no journal can hold, and the lines. What is expected stands in
+//! docs/RULES.md.
 
 use elsterkabel::{
     number, version, word_of, Access, Answer, Controls, Features, Lines, State, Timer, Timers,
@@ -12,6 +13,9 @@ const MRS_CNTVCT: u32 = 0xD53B_E040;
 const MRS_CNTPCT: u32 = 0xD53B_E020;
 const MRS_CNTV_CTL: u32 = 0xD53B_E320;
 const MSR_CNTV_TVAL: u32 = 0xD51B_E301;
+const MRS_CNTKCTL: u32 = 0xD538_E100;
+const MSR_CNTKCTL: u32 = 0xD518_E101;
+const MRS_CNTPOFF: u32 = 0xD53C_E0C2;
 
 /// What fills a buffer that is lent, so that a byte written shows.
 const UNTOUCHED: u8 = 0xEE;
@@ -129,6 +133,33 @@ fn reading_12_a_wrap_a_host_and_a_stranger() {
 
     let stranger = numbered(number::NOT_A_TIMER_ACCESS);
     assert_eq!(bench().access(access(0xD53B_E000, EL1, 0, 1000)), stranger);
+}
+
+#[test]
+fn a_write_of_cntkctl_is_found_in_the_lent_state_and_keeps_no_reserved_bit() {
+    let mut state = bench();
+    let written = Answer { rt: 1, ..done(0) };
+    let all_ones = access(MSR_CNTKCTL, EL1, u64::MAX, 1000);
+    assert_eq!(state.access(all_ones), written);
+    let mut moved = bench();
+    moved.controls.cntkctl = 0x3FF;
+    assert_eq!(state, moved);
+    assert_eq!(state.access(access(MRS_CNTKCTL, EL1, 0, 1000)), done(0x3FF));
+}
+
+#[test]
+fn cntpoff_at_el2_is_a_trap_to_el3_until_ecven_is_set() {
+    let mut state = bench();
+    state.features.ecv = true;
+    state.cntpoff = 77;
+    let read = access(MRS_CNTPOFF, EL2, 0, 1000);
+    let trapped = Answer {
+        rt: 2,
+        ..numbered(number::TRAP_TO_EL3)
+    };
+    assert_eq!(state.access(read), trapped);
+    state.controls.ecven = true;
+    assert_eq!(state.access(read), Answer { rt: 2, ..done(77) });
 }
 
 #[test]

@@ -17,8 +17,9 @@
 /* What the guest notes. */
 #define NOTE_INTERRUPTED 0 /* its CNTVCT, its TVAL */
 #define NOTE_LOST_REGISTERS 1 /* they do not hold what they held when it began to wait */
-#define NOTE_TRIED 2 /* which of the attempts, and the syndrome of what came of it */
-#define NOTE_FAULTED 3 /* an exception that it did not ask for: its address and syndrome */
+#define NOTE_READ_AT_EL0 2 /* what EL0 read from CNTVCT, and the syndrome of what ended its turn */
+#define NOTE_TRIED 3 /* which of the attempts, and the syndrome of what came of it */
+#define NOTE_FAULTED 4 /* an exception that it did not ask for: its address and syndrome */
 
 /* How many leases it takes: more than one, as a second needs what the first has used. */
 #define LEASES 2
@@ -40,6 +41,8 @@
     attempt("MRS CNTVOFF_EL2", "mrs x0, cntvoff_el2")                       \
     attempt("MSR CNTVOFF_EL2", "msr cntvoff_el2, xzr")                      \
     attempt("MSR CNTHCTL_EL2", "msr cnthctl_el2, xzr")                      \
+    attempt("MSR CNTPOFF_EL2", "msr s3_4_c14_c0_6, xzr")                    \
+    attempt("MRS CNTKCTL_EL12", "mrs x0, s3_5_c14_c1_0")                    \
     attempt("MSR CNTHP_CTL_EL2", "msr cnthp_ctl_el2, xzr")                  \
     attempt("MRS CNTHP_TVAL_EL2", "mrs x0, cnthp_tval_el2")                 \
     attempt("MRS CNTHVS_TVAL_EL2", "mrs x0, s3_4_c14_c4_0")

@@ -1,13 +1,14 @@
 /*
- * The guest: it takes a lease of its virtual timer, is interrupted at the end and gives it back; then it tries what it
- * may not touch. Its instructions are those of any guest: it does not know how they get to the hypervisor.
+ * The guest: it takes a lease of its virtual timer, is interrupted at the end and gives it back; it opens the count to
+ * its EL0 and shuts it again; then it tries what it may not touch. Its instructions are those of any guest: it does not
+ * know how they get to the hypervisor.
  */
 #include "../core.h"
 #include "calls.h"
 
 #include <stdbool.h>
 
-enum { ENABLE = 1, READINGS = 3 };
+enum { ENABLE = 1, READINGS = 3, EL0VCTEN = 1 << 1, EVNTIS = 1 << 17 };
 
 static volatile bool interrupted;
 static volatile bool trying;
@@ -15,6 +16,12 @@ static volatile uint64_t syndrome;
 
 /* start.S: waits until it is true, and tells whether no register has changed */
 bool wait_with_known_registers(const volatile bool *over);
+
+/* start.S: reads CNTVCT at EL0, and tells what ended that */
+struct turn {
+    uint64_t count, syndrome;
+};
+struct turn read_count_at_el0(void);
 
 static void note(uint64_t what, uint64_t first, uint64_t second) {
     register uint64_t x0 __asm__("x0") = what;
@@ -72,6 +79,15 @@ static void linger(void) {
         ;
 }
 
+/* EVNTIS came with ECV, which its machine does not have, so that it is not kept. */
+static void rule_el0(uint64_t control) {
+    write_register(CNTKCTL_EL1, control | EVNTIS);
+    synchronize();
+    (void)read_register(CNTKCTL_EL1);
+    struct turn turn = read_count_at_el0();
+    note(NOTE_READ_AT_EL0, turn.count, turn.syndrome);
+}
+
 static void try_what_it_may_not_touch(void) {
     uint64_t which = 0;
     trying = true;
@@ -89,6 +105,8 @@ void guest(uint64_t ticks) {
         hold_lease(ticks);
         linger();
     }
+    rule_el0(EL0VCTEN);
+    rule_el0(0);
     try_what_it_may_not_touch();
     end();
 }

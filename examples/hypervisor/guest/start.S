@@ -38,7 +38,12 @@ vectors:
     .endr
     on on_exception
     on on_interrupt
-    .rept 10 /* FIQ and SError, and all from EL0, where nothing runs */
+    .rept 2 /* FIQ and SError */
+    on on_exception
+    .endr
+    .balign 0x80
+    b back_from_el0
+    .rept 7 /* what else comes from EL0 */
     on on_exception
     .endr
 
@@ -54,6 +59,27 @@ back:
     ldp x2, x3, [sp, #16]
     ldp x0, x1, [sp], #160
     eret
+
+/* EL0's turn changes x0 alone, and an exception ends it; so EL1 goes back to its caller from there, with the syndrome in x1. */
+    .global read_count_at_el0
+read_count_at_el0:
+    adrp x0, at_el0
+    add x0, x0, :lo12:at_el0
+    msr elr_el1, x0
+    mov x0, #0x3C0 /* PSTATE: EL0, all masked */
+    msr spsr_el1, x0
+    eret
+back_from_el0:
+    mrs x1, esr_el1
+    msr daifclr, #2
+    ret
+
+    .section .el0, "ax"
+at_el0:
+    mov x0, #0
+    mrs x0, cntvct_el0
+    svc #0
+    .text
 
 /* Every register but x0 and x1 holds its own number until what x0 points to is not 0. */
     .global wait_with_known_registers

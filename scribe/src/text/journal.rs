@@ -293,6 +293,11 @@ mod tests {
             "1:13: expected the name of a timer register, found `CNTX_EL0`; \
              nearest: CNTPCT_EL0, CNTVCT_EL0"
         );
+        let fault = pack("EL2 MRS X0, CNTKCTL_EL12 @ 1").expect_err("not in the table");
+        assert_eq!(
+            fault.to_string(),
+            "1:13: expected the name of a timer register, found `CNTKCTL_EL12`; nearest: CNTKCTL_EL1"
+        );
     }
 
     #[test]

@@ -12,7 +12,7 @@
 //! What is left out, a register or a field of one, is as in the bench's start; it is zero where
 //! `ALL ZERO` stands before the first register.
 
-use crate::control::{bits_of, Bit};
+use crate::control::{bits_of, Bits};
 use crate::fields::{arm_name, registers, Field};
 use crate::state::State;
 
@@ -114,19 +114,19 @@ fn perhaps(word: &str, names: &[&'static str]) -> String {
     }
 }
 
-/// The names of a register's fields, and of its bits by either layout.
+/// The names of a register's fields, by either layout of a control register.
 fn parts_of(register: &str) -> impl Iterator<Item = &'static str> + '_ {
     let fields = State::default().fields().into_iter();
     let fields = fields.filter(move |(name, _)| name.register == register);
     let bits = [false, true].into_iter();
     let bits = bits.filter_map(move |e2h| bits_of(register, e2h)).flatten();
     let parts = fields.filter_map(|(name, _)| name.part);
-    parts.chain(bits.map(|(name, _)| *name))
+    parts.chain(bits.map(|bits| bits.name))
 }
 
 /// Fills in what the rows say, and gives their faults.
 fn fill_all(state: &mut State, mut rows: Vec<Row>) -> Vec<Fault> {
-    // E2H picks the names of CNTHCTL's bits, so HCR_EL2 goes before it wherever it stands.
+    // E2H picks the names of CNTHCTL's fields, so HCR_EL2 goes before it wherever it stands.
     let order = registers();
     rows.sort_by_key(|row| order.iter().position(|name| *name == row.register));
     let faults = rows.into_iter().filter_map(|row| {
@@ -143,16 +143,19 @@ fn fill(state: &mut State, register: &'static str, mut line: Line) -> Parsed<()>
     fields.retain(|field| field.name.register == register);
     match (bits, &mut fields[..]) {
         (Some(bits), [word]) if !line.next_is_number() => {
-            let what = format!("a number, or a bit of {register}{}", naming(register, e2h));
+            let what = format!(
+                "a number, or a field of {register}{}",
+                naming(register, e2h)
+            );
             bits_by_name(&mut line, &what, word, bits)?
         }
-        (_, [whole]) if whole.name.part.is_none() => whole.set(number(&mut line, whole)?),
+        (_, [whole]) if whole.name.part.is_none() => whole.set(field_number(&mut line, whole)?),
         (_, parts) => parts_by_name(&mut line, parts)?,
     }
     line.end()
 }
 
-/// What is to be said of the names of a register's bits.
+/// What is to be said of the names of a control register's fields.
 fn naming(register: &str, e2h: bool) -> String {
     match bits_of(register, e2h) == bits_of(register, !e2h) {
         true => String::new(),
@@ -160,12 +163,12 @@ fn naming(register: &str, e2h: bool) -> String {
     }
 }
 
-fn bits_by_name(line: &mut Line, what: &str, word: &mut Field, bits: &[Bit]) -> Parsed<()> {
-    let names: Vec<&str> = bits.iter().map(|(name, _)| *name).collect();
+fn bits_by_name(line: &mut Line, what: &str, word: &mut Field, layout: &[Bits]) -> Parsed<()> {
+    let names: Vec<&str> = layout.iter().map(|bits| bits.name).collect();
     each_named(line, what, &names, |line, chosen| {
-        let (name, place) = bits[chosen];
-        let others = word.value() & !(1 << place);
-        word.set(others | line.bit(name)? << place);
+        let bits = layout[chosen];
+        let value = number(line, bits.name, bits.width)?;
+        word.set(bits.put(word.value(), value));
         Ok(())
     })
 }
@@ -175,7 +178,7 @@ fn parts_by_name(line: &mut Line, parts: &mut [Field]) -> Parsed<()> {
     let what = format!("a field of {}", parts[0].name.register);
     each_named(line, &what, &names, |line, chosen| {
         let part = &mut parts[chosen];
-        part.set(number(line, part)?);
+        part.set(field_number(line, part)?);
         Ok(())
     })
 }
@@ -204,12 +207,15 @@ fn each_named(
     }
 }
 
-fn number(line: &mut Line, field: &Field) -> Parsed<u64> {
-    let what = field.name.to_string();
-    match field.bits() {
-        1 => line.bit(&what),
-        64 => line.signed_number(&what),
-        bits => line.number(&what, bits),
+fn field_number(line: &mut Line, field: &Field) -> Parsed<u64> {
+    number(line, &field.name.to_string(), field.bits())
+}
+
+fn number(line: &mut Line, what: &str, width: u32) -> Parsed<u64> {
+    match width {
+        1 => line.bit(what),
+        64 => line.signed_number(what),
+        bits => line.number(what, bits),
     }
 }
 
@@ -276,17 +282,26 @@ mod tests {
         assert_eq!(state(&format!("{text}\nHCR_EL2 = E2H 1")).cnthctl, 1 << 10);
         assert_eq!(
             fault("CNTHCTL = EL1PTEN 1"),
-            "1:11: expected a number, or a bit of CNTHCTL as E2H 0 names them: EL1PCTEN, EL1PCEN, ECV, \
-             EL1TVT, EL1TVCT, \
+            "1:11: expected a number, or a field of CNTHCTL as E2H 0 names them: EL1PCTEN, EL1PCEN, \
+             EVNTEN, EVNTDIR, EVNTI, ECV, EL1TVT, EL1TVCT, EL1NVPCT, EL1NVVCT, EVNTIS, \
              found `EL1PTEN`"
         );
         let said = fault("CNTHCTL = EL1PCEN 1\nHCR_EL2 = E2H 1");
         assert!(
-            said.contains("a bit of CNTHCTL as E2H 1 names them: EL0PCTEN, "),
+            said.contains("a field of CNTHCTL as E2H 1 names them: EL0PCTEN, "),
             "{said}"
         );
         let said = fault("CNTKCTL = EL1PCEN 1");
-        assert!(said.contains("a bit of CNTKCTL: EL0PCTEN, "), "{said}");
+        assert!(said.contains("a field of CNTKCTL: EL0PCTEN, "), "{said}");
+    }
+
+    #[test]
+    fn what_is_kept_without_effect_may_be_written_by_name() {
+        let state = state(
+            "ALL ZERO\nCNTKCTL = EVNTEN 1, EVNTI 0xF, EVNTIS 1\n\
+             CNTHCTL = EVNTDIR 1, EVNTI 5, EL1NVPCT 1, EL1NVVCT 1",
+        );
+        assert_eq!((state.cntkctl, state.cnthctl), (0x200F4, 0x18058));
     }
 
     #[test]
@@ -331,6 +346,10 @@ mod tests {
             (
                 "CNTKCTL = -1",
                 "1:11: expected CNTKCTL of at most 32 bits, decimal or 0x, found `-1`",
+            ),
+            (
+                "CNTKCTL = EVNTI 16",
+                "1:17: expected EVNTI of at most 4 bits, decimal or 0x, found `16`",
             ),
             (
                 "CNTVOFF = 4oo",
@@ -381,6 +400,7 @@ mod tests {
         assert_eq!(told("ecv"), "; FEATURES, CNTHCTL have ECV");
         assert_eq!(told("ecven"), "; SCR_EL3 has ECVEn");
         assert_eq!(told("EL1PTEN"), "; CNTHCTL has EL1PTEN");
+        assert_eq!(told("evnti"), "; CNTKCTL, CNTHCTL have EVNTI");
         assert_eq!(told(";"), "");
         assert_eq!(told("FOO"), "");
     }

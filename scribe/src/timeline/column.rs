@@ -104,6 +104,13 @@ mod tests {
         state = down.seen.state;
         state.cntpoff += 1;
         assert_eq!(marked(state), ["CNTP"]);
+        state = down.seen.state;
+        state.cnthctl ^= 1 << 12;
+        assert_eq!(marked(state), ["CNTP"], "the offset is turned on");
+        state = down.seen.state;
+        state.cnthctl ^= 1;
+        state.cntkctl ^= 1 << 12;
+        assert!(marked(state).is_empty());
     }
 
     #[test]

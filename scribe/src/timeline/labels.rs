@@ -1,9 +1,10 @@
 //! What a moment is told with, in the table and in the picture.
 
-use crate::fields::Change;
+use crate::control::ECV;
+use crate::fields::{registers, Change};
 use crate::instruction::{Direction, Instruction};
 use crate::state::TIMERS;
-use crate::words::number;
+use crate::words::{held_in, number};
 use crate::written::Lines;
 
 use super::desk::Reading;
@@ -34,12 +35,12 @@ fn is_written(moment: &Moment, timer: usize) -> bool {
 
 /// Whether the moment's record changed that timer, or what shifts its count.
 pub(super) fn is_marked(moment: &Moment, timer: usize) -> bool {
-    let offset = match TIMERS[timer] {
-        "CNTP" => "CNTPOFF",
-        "CNTV" => "CNTVOFF",
-        _ => return is_written(moment, timer),
+    let shifts = |change: &Change| match (TIMERS[timer], change.name.register) {
+        ("CNTP", "CNTPOFF") | ("CNTV", "CNTVOFF") => true,
+        ("CNTP", "CNTHCTL") => ECV.of(change.before) != ECV.of(change.after),
+        _ => false,
     };
-    is_written(moment, timer) || !moved_of(moment, offset).is_empty()
+    is_written(moment, timer) || moment.moved.iter().any(shifts)
 }
 
 /// Each moment with the lines before it; before the first they are its own.
@@ -99,9 +100,17 @@ fn instruction(word: u32) -> String {
     }
 }
 
+/// The registers that are no timer's and that a record changed, in the order of a state.
+pub(super) fn moved_beside_timers(moments: &[Moment]) -> Vec<&'static str> {
+    let is_moved = |register: &&str| moments.iter().any(|m| !moved_of(m, register).is_empty());
+    let others = registers().into_iter();
+    let others = others.filter(|register| !TIMERS.contains(register));
+    others.filter(is_moved).collect()
+}
+
 /// What the record left in each field that it changed.
 pub(super) fn moved(moment: &Moment) -> Vec<String> {
-    let told = |change: &Change| format!("{} {}", change.name, number(change.after));
+    let told = |change: &Change| format!("{} {}", change.name, held_in(&change.name, change.after));
     moment.moved.iter().map(told).collect()
 }
 
@@ -114,7 +123,7 @@ pub(super) fn moved_of(moment: &Moment, register: &str) -> Vec<String> {
 
 /// What a change left, without the name of the register.
 pub(super) fn left(change: &Change) -> String {
-    let left = number(change.after);
+    let left = held_in(&change.name, change.after);
     match change.name.part {
         Some(part) => format!("{part} {left}"),
         None => left,
@@ -186,6 +195,22 @@ mod tests {
         let mut shifted = first.seen.state;
         shifted.cntpoff = 7;
         assert_eq!(drawn(&[write(&first, 1, 0, shifted)]), [CNTV]);
+    }
+
+    #[test]
+    fn what_is_no_timers_is_told_once_where_a_record_changed_it() {
+        let first = start(5);
+        let mut state = first.seen.state;
+        state.cntvoff = 7;
+        state.timers[1].cval = 7;
+        let second = write(&first, 1, 0, state);
+        state.cntvoff = 8;
+        state.cntkctl = 0x301;
+        let third = write(&second, 2, 0, state);
+        assert_eq!(moved(&third), ["CNTKCTL 0x301", "CNTVOFF 8"]);
+        assert_eq!(moved_of(&third, "CNTKCTL"), ["0x301"]);
+        let told = moved_beside_timers(&[first, second, third]);
+        assert_eq!(told, ["CNTKCTL", "CNTVOFF"]);
     }
 
     #[test]

@@ -1,6 +1,6 @@
 //! A journal's moments over its counts: the virtual count, the TVAL that a guest would read, and the
-//! lines. What is drawn is what the desk says; nothing here knows a rule, but where to ask and
-//! whose offset is whose.
+//! lines. What is drawn is what the desk says; nothing here knows a rule, but where to ask, whose
+//! offset is whose, and which bit turns one on.
 
 mod column;
 mod deadlines;

@@ -7,7 +7,8 @@ use crate::words::number;
 use crate::written::Lines;
 
 use super::labels::{
-    drawn, left, moved_of, records, turned, tval, virtual_count, with_lines_before,
+    drawn, left, moved_beside_timers, moved_of, records, turned, tval, virtual_count,
+    with_lines_before,
 };
 use super::moments::{Cause, Moment};
 use super::svg::Svg;
@@ -22,13 +23,10 @@ const NARROWEST: usize = 64;
 /// What is left free between two columns.
 const BETWEEN: usize = 13;
 
-/// The registers that shift a count, and with it the deadlines.
-const OFFSETS: [&str; 2] = ["CNTVOFF", "CNTPOFF"];
-
 const LEGEND: [&str; 3] = [
     "A column is a moment; they are evenly spaced, not to scale. Timers but CNTV that are never on, up or written are left out.",
     "virtual and TVAL are CNTVCT and CNTV_TVAL as a guest reads them at EL1: ? is unknown, - cannot be read there.",
-    "High and filled: the line is up. Diamond or new offset: a write changed a timer or its offset. Dashed: the count alone turned a line.",
+    "High and filled: the line is up. Diamond or new value: a write changed that timer or register. Dashed: the count alone turned a line.",
 ];
 
 /// A moment with the lines before it.
@@ -98,20 +96,20 @@ struct Sheet {
     y: usize,
     column: usize,
     tracks: Vec<Track>,
-    offsets: Vec<&'static str>,
+    /// What a record changed beside the timers has a row.
+    beside: Vec<&'static str>,
 }
 
 impl Sheet {
     fn of(moments: &[Moment]) -> Sheet {
         let timers = drawn(moments).into_iter();
         let tracks: Vec<Track> = timers.map(|timer| Track::of(timer, moments)).collect();
-        let is_moved = |offset: &&str| moments.iter().any(|m| !moved_of(m, offset).is_empty());
         Sheet {
             svg: Svg::default(),
             y: MARGIN,
             column: column_width(moments),
             tracks,
-            offsets: OFFSETS.into_iter().filter(is_moved).collect(),
+            beside: moved_beside_timers(moments),
         }
     }
 
@@ -144,9 +142,9 @@ impl Sheet {
         self.row("count", "count", band, |moment| number(moment.count));
         self.row("virtual", "value", band, virtual_count);
         self.row("TVAL", "value", band, tval);
-        for offset in self.offsets.clone() {
-            let moved = |moment: &Moment| moved_of(moment, offset).join(" ");
-            self.row(offset, "note", band, moved);
+        for register in self.beside.clone() {
+            let moved = |moment: &Moment| moved_of(moment, register).join(" ");
+            self.row(register, "note", band, moved);
         }
         self.y += ROW / 3;
         self.columns(band);
@@ -281,6 +279,17 @@ mod tests {
         assert!(told.contains(">Timer lines over a journal of 1 record</title>"));
         assert!(well_formed(&[first]).contains("No line turns."));
         assert!(well_formed(&[]).contains("a journal without a record"));
+    }
+
+    #[test]
+    fn a_control_register_that_a_write_changed_has_a_row() {
+        let first = start(5);
+        let mut state = first.seen.state;
+        state.cntkctl = 0x301;
+        let shut = write(&first, 1, 0, state);
+        let file = well_formed(&[first.clone(), shut]);
+        assert_eq!(height_of(&file, "CNTKCTL"), height_of(&file, "0x301"));
+        assert!(!well_formed(&[first]).contains("CNTKCTL"));
     }
 
     fn height_of(file: &str, words: &str) -> usize {

@@ -12,8 +12,8 @@ use super::moments::Moment;
 const LEGEND: &str = "
 A row is a moment; time goes down. virtual and TVAL are CNTVCT and CNTV_TVAL as
 a guest reads them at EL1: ? is unknown, - cannot be read there. A line is down
-at the left of its column and up at the right. * is where a write changed a
-timer or its offset.
+at the left of its column and up at the right. * is what a write changed; in a
+line's column, its timer or its offset.
 ";
 
 const UNKNOWN_LINES: &str = "\

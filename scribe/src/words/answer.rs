@@ -4,7 +4,7 @@
 use crate::answer::Answer;
 use crate::instruction::{rt_of, Direction, Instruction};
 
-use super::number::{number, value};
+use super::number::{digits, number, value};
 
 /// The bits of a CTL, from bit 0 on.
 const CTL_BITS: [&str; 3] = ["ENABLE", "IMASK", "ISTATUS"];
@@ -32,7 +32,7 @@ pub fn lone_answer(answer: &Answer) -> String {
 
 /// Only what is done, Undefined or a trap gives the word's Rt.
 fn gives_rt(answer: &Answer) -> bool {
-    answer.number <= 3
+    matches!(answer.number, 0..=3 | 10)
 }
 
 fn odd_rt(answer: &Answer) -> String {
@@ -55,6 +55,7 @@ fn verdict(answer: &Answer, instruction: Option<Instruction>) -> String {
         4 => "refused, 4: not MRS or MSR, or not in the name table".to_string(),
         5 => "refused, 5: impossible context".to_string(),
         6 => "refused, 6: reserved bit set".to_string(),
+        10 => "trap to EL3, class 0x18".to_string(),
         other => format!("number {other}, which no record is answered with"),
     };
     match (answer.value, answer.mask) {
@@ -66,6 +67,8 @@ fn verdict(answer: &Answer, instruction: Option<Instruction>) -> String {
 fn done(answer: &Answer, instruction: Option<Instruction>) -> String {
     let written = instruction.is_some_and(|i| i.direction == Direction::Msr);
     let is_ctl = instruction.is_some_and(|i| i.register.is_ctl());
+    let is_control = instruction.is_some_and(|i| i.register.is_control());
+    let value = if is_control { digits } else { value };
     match (answer.value, answer.mask) {
         (0, 0) if written => "done".to_string(),
         (0, u64::MAX) => "done, all 64 bits unknown".to_string(),
@@ -124,6 +127,8 @@ mod tests {
     const CNTVCT: u32 = 0xD53B_E040;
     const CNTV_CTL: u32 = 0xD53B_E320;
     const CNTV_TVAL_WRITTEN: u32 = 0xD51B_E300;
+    const CNTPOFF: u32 = 0xD53C_E0C0;
+    const CNTKCTL: u32 = 0xD538_E100;
 
     fn done_with(value: u64, mask: u64) -> Answer {
         Answer {
@@ -164,8 +169,11 @@ mod tests {
             "done 0, unknown: bit 0, bits 4 to 7"
         );
         assert_eq!(said(done_with(0, 0), CNTV_TVAL_WRITTEN), "done");
+        assert_eq!(said(done_with(771, 0), CNTKCTL), "done 0x303");
+        assert_eq!(said(done_with(771, 0), CNTPOFF), "done 771");
         assert_eq!(said(number_only(1), CNTVCT), "Undefined");
         assert_eq!(said(number_only(3), CNTVCT), "trap to EL2, class 0x18");
+        assert_eq!(said(number_only(10), CNTPOFF), "trap to EL3, class 0x18");
         assert_eq!(
             said(number_only(5), CNTVCT),
             "refused, 5: impossible context"
@@ -190,12 +198,20 @@ mod tests {
             "refused, 4: not MRS or MSR, or not in the name table [value 1, mask 2] [Rt 3] [padding 9]"
         );
         assert_eq!(answer(&done_with(5, 0), CNTVCT | 7), "done 5 [Rt 0]");
+        assert_eq!(
+            answer(&number_only(10), CNTPOFF | 7),
+            "trap to EL3, class 0x18 [Rt 0]"
+        );
         assert!(answer(&number_only(9), 0).contains("number 9"));
     }
 
     #[test]
     fn an_answer_alone_has_its_rt() {
         assert_eq!(lone_answer(&done_with(600, 0)), "done 600, Rt 0");
+        assert_eq!(
+            lone_answer(&number_only(10)),
+            "trap to EL3, class 0x18, Rt 0"
+        );
         assert_eq!(lone_answer(&number_only(6)), "refused, 6: reserved bit set");
     }
 }

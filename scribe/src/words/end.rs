@@ -5,6 +5,7 @@ use crate::show::lines as in_lines;
 use crate::state::TIMERS;
 use crate::written::Lines;
 
+use super::field::held_in;
 use super::number::number;
 
 /// What a run changed, a line for each field.
@@ -13,7 +14,8 @@ pub fn changes(changes: &[Change]) -> String {
         return "the final state is the first\n".to_string();
     }
     let change = |change: &Change| {
-        let (before, after) = (number(change.before), number(change.after));
+        let [before, after] =
+            [change.before, change.after].map(|value| held_in(&change.name, value));
         format!("  {}: {before} -> {after}", change.name)
     };
     let told = in_lines(changes.iter().map(change));

@@ -3,7 +3,7 @@
 use crate::instruction::{Direction, Instruction, XZR};
 use crate::record::Record;
 
-use super::number::number;
+use super::number::{digits, number};
 
 pub fn record(record: &Record) -> String {
     let level = format!("EL{}", record.level);
@@ -13,10 +13,11 @@ pub fn record(record: &Record) -> String {
         None => format!("WORD {:#010X} {level}", record.word),
     };
     let reads = instruction.is_some_and(|i| i.direction == Direction::Mrs);
-    let operand = if reads && record.operand == 0 {
-        String::new()
-    } else {
-        format!(" = {}", number(record.operand))
+    let is_control = instruction.is_some_and(|i| i.register.is_control());
+    let operand = match record.operand {
+        0 if reads => String::new(),
+        bits if is_control => format!(" = {}", digits(bits)),
+        other => format!(" = {}", number(other)),
     };
     let reserved = match record.reserved {
         0 => String::new(),

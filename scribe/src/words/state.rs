@@ -1,10 +1,10 @@
 //! A state as the text that packs to it, one register a line.
 
-use crate::control::{bits_of, is_of_ecv};
+use crate::control::{bits_of, Bits};
 use crate::fields::{arm_name, registers, FieldName};
 use crate::state::State;
 
-use super::number::number;
+use super::field::held_in;
 use super::COLUMNS;
 
 /// The registers of a state in the order of its image, as Arm calls them, with what they hold.
@@ -31,34 +31,28 @@ fn held(state: &State, register: &str) -> String {
 
 fn field((name, value): (FieldName, u64)) -> String {
     match name.part {
-        Some(part) => format!("{part} {}", number(value)),
-        None if is_control(name.register) && value != 0 => format!("{value:#X}"),
-        None => number(value),
+        Some(part) => format!("{part} {}", held_in(&name, value)),
+        None => held_in(&name, value),
     }
 }
 
-fn is_control(register: &str) -> bool {
-    bits_of(register, false).is_some()
-}
-
-/// What a reader would look up: the bits of a control register, and negative numbers.
+/// What a reader would look up: the fields of a control register, and negative numbers.
 fn notes(state: &State, register: &str) -> Vec<String> {
     let of_register = state.fields().into_iter();
     let of_register = of_register.filter(|(name, _)| name.register == register);
     of_register
         .flat_map(|(name, value)| match bits_of(register, state.e2h) {
-            Some(bits) => named_bits(value, bits, state.ecv),
+            Some(layout) => named_bits(value, layout, state.ecv),
             None => negative(name, value).into_iter().collect(),
         })
         .collect()
 }
 
-/// Without ECV its bits are told only where one is set, which no state can have.
-fn named_bits(word: u64, bits: &[(&str, u32)], ecv: bool) -> Vec<String> {
-    bits.iter()
-        .map(|&(name, place)| (name, place, word >> place & 1))
-        .filter(|&(_, place, bit)| !is_of_ecv(place) || ecv || bit == 1)
-        .map(|(name, _, bit)| format!("{name} {bit}"))
+fn named_bits(word: u64, layout: &[Bits], ecv: bool) -> Vec<String> {
+    layout
+        .iter()
+        .filter(|bits| bits.is_told(word, ecv))
+        .map(|bits| format!("{} {}", bits.name, bits.of(word)))
         .collect()
 }
 
@@ -141,6 +135,23 @@ mod tests {
     }
 
     #[test]
+    fn what_is_kept_without_effect_is_told_where_it_is_set() {
+        let mut given = State {
+            cntkctl: 0x200AD,
+            ..State::default()
+        };
+        assert!(state_text(&given).contains(
+            "CNTKCTL = 0x200AD # EL0PCTEN 1, EL0VCTEN 0, EVNTEN 1, EVNTDIR 1, EVNTI 10,\n\
+             \x20                 # EL0VTEN 0, EL0PTEN 0, EVNTIS 1\n"
+        ));
+        given.cnthctl = 0x18000;
+        assert_eq!(
+            line_of(&given, "CNTHCTL"),
+            "CNTHCTL = 0x18000 # EL1PCTEN 0, EL1PCEN 0, EL1NVPCT 1, EL1NVVCT 1"
+        );
+    }
+
+    #[test]
     fn a_negative_number_is_told_beside_it() {
         let mut given = State::bench();
         given.cntvoff = u64::MAX - 99;
@@ -173,7 +184,7 @@ mod tests {
         let text = state_text(&widest);
         assert!(text.lines().all(|line| line.len() <= COLUMNS), "{text}");
         assert!(
-            text.contains("EL1PCTEN 1,\n                     # EL1PTEN 1"),
+            text.contains("EVNTI 15,\n                     # EL0VTEN 1"),
             "{text}"
         );
         assert_eq!(state_of(&text), Ok(widest));
