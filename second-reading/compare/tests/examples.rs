@@ -76,15 +76,17 @@ fn the_readings_give_what_the_bench_gave() {
 }
 
 #[test]
-fn the_lease_gives_the_answers_beside_it() {
-    let text = file("lease.txt");
-    let entries = scribe::entries(&text).expect("a text");
-    let shown = with_comments(&side_by_side(&text), &entries);
-    let foretold = file("lease.answers");
-    assert_eq!(
-        shown.lines().collect::<Vec<_>>(),
-        foretold.lines().collect::<Vec<_>>()
-    );
+fn what_has_answers_beside_it_gives_them() {
+    for name in ["lease", "kernel"] {
+        let text = file(&format!("{name}.txt"));
+        let entries = scribe::entries(&text).expect("a text");
+        let shown = with_comments(&side_by_side(&text), &entries);
+        let foretold = file(&format!("{name}.answers"));
+        assert_eq!(
+            shown.lines().collect::<Vec<_>>(),
+            foretold.lines().collect::<Vec<_>>()
+        );
+    }
 }
 
 #[test]
