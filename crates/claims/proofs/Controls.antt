@@ -4,10 +4,8 @@
 -- Assumes nothing.
 use Prim.Native.Nat.{ℕ}
 use mathlib.Core.Bool.{Bool}
-use mathlib.Core.List.{List, _∷_}
 use mathlib.Core.Logic.{⊎-elim}
 use mathlib.Core.Path.{_≡_, refl, sym, ap, subst, _∙_}
-use Rattle.rules.specs.declared.access.Access.{Access}
 use Rattle.rules.specs.declared.facts.Facts.{Facts}
 use Rattle.rules.specs.declared.name.Name.{Name}
 use Rattle.rules.specs.declared.state.State.{State}
@@ -21,7 +19,7 @@ use Rattle.rules.specs.Verdicts.{verdictOf}
 use Rattle.rules.specs.Values.{known, readOf, writeOf}
 use Rattle.rules.specs.Answers.{doneRead}
 use Rattle.rules.specs.Access.{accessOf}
-use Rattle.claims.specs.Desk.{endState, PermittedWrite, PermittedRead, NoneReaches}
+use Rattle.claims.specs.Desk.{endState}
 use Rattle.claims.specs.Controls.{ReadsBack, IsControl, ReadableAfterwards, ControlsReadBack}
 use Rattle.claims.proofs.Contexts.{context-stands}
 use Rattle.claims.proofs.Kept.{all-keep}

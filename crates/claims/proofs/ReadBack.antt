@@ -1,7 +1,7 @@
 -- What a TVAL write took is read back. The count that the write added is the count that the read takes off, both wrapped at
 -- 64 bits; and taking 32 bits as signed does not touch the low 32.
 -- Assumes nothing.
-use Prim.Native.Nat.{ℕ, _-_, _^_, _<_}
+use Prim.Native.Nat.{ℕ, _^_, _<_}
 use mathlib.Core.Bool.{Bool, true, false, cond}
 use mathlib.Core.List.{_∷_}
 use mathlib.Core.Path.{_≡_, refl, sym, ap, subst, _∙_}

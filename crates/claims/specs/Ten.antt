@@ -1,5 +1,4 @@
 -- 10, a trap to EL3, in plain words: when it is given, and never else.
-use Prim.Native.Nat.{ℕ}
 use mathlib.Core.Bool.{true, false}
 use mathlib.Core.Path.{_≡_}
 use Rattle.rules.specs.declared.access.Access.{Access}
