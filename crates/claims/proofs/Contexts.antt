@@ -20,7 +20,7 @@ use Rattle.rules.specs.Stored.{storedCnthctl}
 use Rattle.rules.specs.Values.{writeOf}
 use Rattle.rules.specs.Context.{impossible, impossibleAt}
 use Rattle.rules.specs.Access.{accessOf}
-use Rattle.rules.proofs.Stored.{cnthctl-plain}
+use Rattle.rules.proofs.Stored.{below-12}
 use Rattle.claims.specs.Desk.{endState, Permitted, PermittedWrite}
 use Rattle.claims.specs.Contexts.{SameContexts, NoWriteMakesFive}
 use Rattle.claims.proofs.GuestGates.{and-false}
@@ -29,11 +29,6 @@ use Rattle.claims.proofs.Ways.{ways, possible}
 use Rattle.claims.proofs.Writes.{writes-change-one}
 
 -- ---- CNTHCTL
-
--- without ECV what is stored lies below bit 12
-below-12 : (e2h : Bool) (x : ℕ) → storedCnthctl e2h false x < 2 ^ 12
-below-12 true x = rw (cnthctl-plain true false x) (omega arith)
-below-12 false x = rw (cnthctl-plain false false x) (omega arith)
 
 bits-12-to-14 : (y : ℕ) → y < 2 ^ 12 → (bits 12 12 y ≡ 0) × (bits 13 13 y ≡ 0) × (bits 14 14 y ≡ 0)
 bits-12-to-14 y h = (omega arith, omega arith, omega arith)

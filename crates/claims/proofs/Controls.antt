@@ -16,11 +16,13 @@ use Rattle.rules.specs.Words.{factsOf}
 use Rattle.rules.specs.Names.{isMrs, writtenOperand}
 use Rattle.rules.specs.Control.{cntkctl, cnthctl, cntpoff}
 use Rattle.rules.specs.Verdicts.{verdictOf}
+use Rattle.rules.specs.States.{withCntkctl, withCnthctl}
 use Rattle.rules.specs.Values.{known, readOf, writeOf}
 use Rattle.rules.specs.Answers.{doneRead}
 use Rattle.rules.specs.Access.{accessOf}
+use Rattle.rules.proofs.Stored.{cntkctl-stays, cnthctl-stays}
 use Rattle.claims.specs.Desk.{endState}
-use Rattle.claims.specs.Controls.{ReadsBack, IsControl, ReadableAfterwards, ControlsReadBack}
+use Rattle.claims.specs.Controls.{ReadsBack, Stays, IsControl, ReadableAfterwards, ControlsReadBack}
 use Rattle.claims.proofs.Contexts.{context-stands}
 use Rattle.claims.proofs.Kept.{all-keep}
 use Rattle.claims.proofs.Writes.{writes-change-one, reads-give}
@@ -70,6 +72,36 @@ cntpoff-elsewhere f s count (Timer t p) x other = refl
 cntpoff-elsewhere f s count Cntkctl x other = refl
 cntpoff-elsewhere f s count Cnthctl x other = refl
 cntpoff-elsewhere f s count Cntpoff x other = absurd (other refl)
+
+-- ---- written back, it stays
+
+-- on a state a write of what the register holds leaves it
+abbrev Settled : Target → (State → ℕ) → State → ℕ → ℕ → Type 0
+Settled register held n level count = writeOf (factsOf n level) n count register (held n) ≡ n
+
+module _ (register : Target)
+    (held : State → ℕ)
+    (settled : (s : State) (level count x later then : ℕ) → Settled register held (writeOf (factsOf s level) s count register x) later then) where
+  stays : Stays register held
+  stays s w again write write-again same =
+      let next : State = accessOf s w .next in
+      let left : next ≡ writeOf (factsOf s (w .level)) s (w .count) register (writtenOperand w) = writes-change-one s w register write .next in
+      writes-change-one next again register write-again .next
+      ∙ ap (writeOf (factsOf next (again .level)) next (again .count) register) same
+      ∙ subst (λ (n : State). Settled register held n (again .level) (again .count)) (sym left) (settled s (w .level) (w .count) (writtenOperand w) (again .level) (again .count))
+
+cntkctl-settled : (s : State) (level count x later then : ℕ) → Settled Cntkctl (λ n. n .controls .cntkctl) (writeOf (factsOf s level) s count Cntkctl x) later then
+unfolding factsOf writeOf
+cntkctl-settled s level count x later then = ap (withCntkctl s) (cntkctl-stays (s .features .ecv) x)
+
+cnthctl-settled : (s : State) (level count x later then : ℕ) → Settled Cnthctl (λ n. n .controls .cnthctl) (writeOf (factsOf s level) s count Cnthctl x) later then
+unfolding factsOf writeOf
+cnthctl-settled s level count x later then =
+    ap (withCnthctl s) (cnthctl-stays (s .controls .e2h) (s .features .ecv) x)
+
+cntpoff-settled : (s : State) (level count x later then : ℕ) → Settled Cntpoff (λ n. n .cntpoff) (writeOf (factsOf s level) s count Cntpoff x) later then
+unfolding factsOf writeOf
+cntpoff-settled s level count x later then = refl
 
 -- ---- the read is permitted
 
@@ -134,4 +166,7 @@ controls-read-back =
       cntkctl = reads-back Cntkctl (λ s. s .controls .cntkctl) _ (λ f s count. refl) (λ s level count x. refl) cntkctl-elsewhere;
       cnthctl = reads-back Cnthctl (λ s. s .controls .cnthctl) _ (λ f s count. refl) (λ s level count x. refl) cnthctl-elsewhere;
       cntpoff = reads-back Cntpoff (λ s. s .cntpoff) _ (λ f s count. refl) (λ s level count x. refl) cntpoff-elsewhere;
+      cntkctlStays = stays Cntkctl (λ s. s .controls .cntkctl) cntkctl-settled;
+      cnthctlStays = stays Cnthctl (λ s. s .controls .cnthctl) cnthctl-settled;
+      cntpoffStays = stays Cntpoff (λ s. s .cntpoff) cntpoff-settled;
     }

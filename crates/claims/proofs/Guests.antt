@@ -279,7 +279,7 @@ module _ (s : State) (a : Access) (g : TrappedGuest s) (low : (a .level ≡ EL0)
       subst OwnOnly (p .verdict) (own-only (factsOf s (a .level)) (guest-facts s (a .level) low g) (p .name) (isMrs (a .word)))
 
   out-of-reach : OutOfReach s a
-  out-of-reach = record { cnthctl = reaches-its-own Target.Cnthctl; cntpoff = reaches-its-own Target.Cntpoff }
+  out-of-reach = record { cnthctl = reaches-its-own _; cntpoff = reaches-its-own _ }
 
 pub guest-claim : GuestClaim
 guest-claim =

@@ -37,12 +37,12 @@ use Rattle.rules.proofs.Timers.{get-put-other}
 use Rattle.rules.proofs.Lease.{value-then-control, control-then-value, raised-at, masked-line, status-at, cntv-count, ahead-from, ahead-wraps, back-from, back-wraps, left-at, left-ahead, left-over, left-back, small-signed, large-signed}
 use Rattle.claims.specs.Desk.{endState, Permitted, PermittedWrite, PermittedRead}
 use Rattle.claims.specs.Guests.{Own, Alike, SequencesAlike}
-use Rattle.claims.specs.Lease.{virtualAt, lineAt, deadlineOf, Lease, Takes, Armed, Renewed, GivenBack, MaskedIsSilent, EndsAtTheDeadline, UpFrom, NotEarlyNotLate, OfTheLease, SameLease, LeftAlone, ticksLeft, TvalTellsTheTruth, ByTheGuestAlone, LeaseKept, LeaseClaim}
-use Rattle.claims.proofs.Contexts.{contexts-stand}
+use Rattle.claims.specs.Lease.{virtualAt, lineAt, deadlineOf, Lease, Takes, Armed, Renewed, GivenBack, MaskedIsSilent, EndsAtTheDeadline, UpFrom, NotEarlyNotLate, OfTheLease, SameLease, LeftAlone, ControlsMoveNone, ticksLeft, TvalTellsTheTruth, ByTheGuestAlone, LeaseKept, LeaseClaim}
+use Rattle.claims.proofs.Contexts.{context-stands, contexts-stand}
 use Rattle.claims.proofs.Guests.{machine, alike-still, any-sequence, one-access}
 use Rattle.claims.proofs.Kept.{all-keep}
 use Rattle.claims.proofs.Ways.{whatever-timers, possible}
-use Rattle.claims.proofs.Writes.{timer-written, reads-give}
+use Rattle.claims.proofs.Writes.{writes-change-one, timer-written, reads-give}
 
 -- ---- 1. Armed
 
@@ -216,6 +216,19 @@ left-alone s accesses none =
     let kept : Kept s end = all-keep OfTheLease Kept kept-here kept-on elsewhere s accesses none in
     (kept .cntvoff, same-lease s end (sym (contexts-stand s accesses .lines)) (sym (kept .cntv)))
 
+one-moves-none : (register : Target) → (OfTheLease register → ⊥) → (s : State) (a : Access) → PermittedWrite s a register → SameLease s (accessOf s a .next)
+one-moves-none register other s a w =
+    let kept : Kept s (accessOf s a .next) = subst (Kept s) (sym (writes-change-one s a register w .next)) (elsewhere _ s _ register _ other) in
+    same-lease s (accessOf s a .next) (sym (context-stands s a .lines)) (sym (kept .cntv))
+
+controls-move-none : ControlsMoveNone
+controls-move-none =
+    record {
+      cntkctl = one-moves-none _ (λ no. no);
+      cnthctl = one-moves-none _ (λ no. no);
+      cntpoff = one-moves-none _ (λ no. no);
+    }
+
 -- ---- 4. TVAL tells the truth
 
 tval-tells-the-truth : TvalTellsTheTruth
@@ -263,6 +276,7 @@ lease-claim =
       endsAtTheDeadline = ends-at-the-deadline;
       notEarlyNotLate = not-early-not-late;
       leftAlone = left-alone;
+      controlsMoveNone = controls-move-none;
       tvalTellsTheTruth = tval-tells-the-truth;
       byTheGuestAlone = by-the-guest-alone;
     }

@@ -16,6 +16,7 @@ pub mod ReadBack
 pub mod Refusals
 pub mod Syndromes
 pub mod Ten
+pub mod Reach
 pub mod TwoMachines
 pub mod Ways
 pub mod Writes

@@ -30,7 +30,7 @@ use Rattle.rules.specs.Context.{impossibleAt}
 use Rattle.rules.specs.Access.{permitted, ruled, served, accessOf}
 use Rattle.rules.proofs.Rules.{cond-holds, first-holds, at-level-holds}
 use Rattle.rules.proofs.Verdicts.{cntp-holds, cntv-holds, cnthp-holds, cnthvs-holds, cntkctl-holds, cnthctl-holds}
-use Rattle.claims.specs.Ten.{CntpoffKept, TenExactlyWhen}
+use Rattle.claims.specs.Ten.{CntpoffToEl3, TenExactlyWhen}
 use Rattle.claims.proofs.Refusals.{permitted-is-done}
 
 -- ---- the gates but CNTPOFF's
@@ -108,19 +108,19 @@ module _ (s : State) (a : Access) where
   abbrev f : Facts
   f = factsOf s (a .level)
 
-  kept-from-el2 : CntpoffKept s a → cntpoff f ≡ ToEl3
+  sent-to-el3 : CntpoffToEl3 s a → cntpoff f ≡ ToEl3
   unfolding factsOf cntpoff
-  kept-from-el2 k = rw (k .ecv, k .ecven, k .level)
+  sent-to-el3 k = rw (k .ecv, k .ecven, k .level)
 
-  trapped : CntpoffKept s a → accessOf s a .answer .number ≡ 10
+  trapped : CntpoffToEl3 s a → accessOf s a .answer .number ≡ 10
   unfolding accessOf served ruled verdictOf
-  trapped k = rw (k .name, k .possible, kept-from-el2 k)
+  trapped k = rw (k .name, k .possible, sent-to-el3 k)
 
   -- ---- the ways to 10
 
-  kept : nameOf (a .word) ≡ Named Cntpoff → impossibleAt s (a .level) ≡ false → cntpoff f ≡ ToEl3 → CntpoffKept s a
+  told-apart : nameOf (a .word) ≡ Named Cntpoff → impossibleAt s (a .level) ≡ false → cntpoff f ≡ ToEl3 → CntpoffToEl3 s a
   unfolding factsOf cntpoff
-  kept n i e =
+  told-apart n i e =
       let told : (s .features .ecv ≡ true) × (eqb (a .level) EL2 ≡ true) × (s .controls .ecven ≡ false) = by-facts (s .features .ecv) (eqb (a .level) EL0) (eqb (a .level) EL1) (eqb (a .level) EL2) (s .controls .ecven) e in
       record { name = n; possible = i; level = eqb-true (a .level) 2 (told .1); ecv = told .0; ecven = told .2 }
 
@@ -134,24 +134,24 @@ module _ (s : State) (a : Access) where
       let done : permitted f s a target .answer .number ≡ 0 = permitted-is-done f s a target in
       absurd (omega arith)
 
-  by-gate : (name : Name) → nameOf (a .word) ≡ Named name → impossibleAt s (a .level) ≡ false → verdictOf f name (isMrs (a .word)) ≡ ToEl3 → CntpoffKept s a
+  by-gate : (name : Name) → nameOf (a .word) ≡ Named name → impossibleAt s (a .level) ≡ false → verdictOf f name (isMrs (a .word)) ≡ ToEl3 → CntpoffToEl3 s a
   unfolding verdictOf
   by-gate name n i e =
       let is-cntpoff : name ≡ Cntpoff = only-cntpoff f name (isMrs (a .word)) e in
-      kept (rw is-cntpoff at n) i (rw is-cntpoff at e)
+      told-apart (rw is-cntpoff at n) i (rw is-cntpoff at e)
 
-  by-context : (name : Name) → nameOf (a .word) ≡ Named name → (b : Bool) → impossibleAt s (a .level) ≡ b → served s a (Named name) .answer .number ≡ 10 → CntpoffKept s a
+  by-context : (name : Name) → nameOf (a .word) ≡ Named name → (b : Bool) → impossibleAt s (a .level) ≡ b → served s a (Named name) .answer .number ≡ 10 → CntpoffToEl3 s a
   unfolding served
   by-context name n true i e = let no : _≡_ {A = ℕ} 5 10 = rw i at e in absurd (omega arith)
   by-context name n false i e =
       by-gate name n i (by-verdict (verdictOf f name (isMrs (a .word))) (rw i at e))
 
-  by-name : (l : Lookup) → nameOf (a .word) ≡ l → served s a l .answer .number ≡ 10 → CntpoffKept s a
+  by-name : (l : Lookup) → nameOf (a .word) ≡ l → served s a l .answer .number ≡ 10 → CntpoffToEl3 s a
   unfolding served
   by-name NotNamed n e = absurd (omega arith)
   by-name (Named name) n e = by-context name n (impossibleAt s (a .level)) refl e
 
-  reason : accessOf s a .answer .number ≡ 10 → CntpoffKept s a
+  reason : accessOf s a .answer .number ≡ 10 → CntpoffToEl3 s a
   unfolding accessOf
   reason = by-name (nameOf (a .word)) refl
 

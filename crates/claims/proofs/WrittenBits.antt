@@ -6,10 +6,15 @@ use mathlib.Core.Bool.{Bool, true, false, cond}
 use mathlib.Core.Path.{_≡_, ap, _∙_}
 use native.Mathlib.Omega.{arith}
 use Rattle.rules.specs.declared.facts.Cnthctl.{Cnthctl}
+use Rattle.rules.specs.declared.verdict.Target.{Target}
 use Rattle.rules.specs.Bits.{bits, bit, cntkctlOf, cnthctlOf}
+use Rattle.rules.specs.Words.{cntkctl, cnthctl, factsOf}
+use Rattle.rules.specs.Names.{writtenOperand}
 use Rattle.rules.specs.Stored.{storedCntkctl, storedCnthctl}
+use Rattle.rules.specs.Values.{writeOf}
 use Rattle.rules.proofs.Stored.{cntkctl-plain, cnthctl-plain}
 use Rattle.claims.specs.WrittenBits.{ofTheLayout, WrittenBitsRule}
+use Rattle.claims.proofs.Writes.{writes-change-one}
 
 -- ---- CNTKCTL
 
@@ -87,4 +92,9 @@ cnthctl-rules false false x =
     ap (cnthctlOf false) (cnthctl-plain false false x) ∙ by-part x 0 0 (omega arith) false
 
 pub written-bits-rule : WrittenBitsRule
-written-bits-rule = record { cntkctl = cntkctl-rules; cnthctl = cnthctl-rules }
+unfolding factsOf writeOf
+written-bits-rule =
+    record {
+      cntkctl = λ s a w. ap cntkctl (writes-change-one s a Target.Cntkctl w .next) ∙ cntkctl-rules _ (writtenOperand a);
+      cnthctl = λ s a w. ap cnthctl (writes-change-one s a Target.Cnthctl w .next) ∙ cnthctl-rules _ _ (writtenOperand a);
+    }

@@ -1,4 +1,5 @@
--- Demand 2 of the control registers: what a write of CNTKCTL, CNTHCTL or CNTPOFF took reads back, cut to the stored bits.
+-- Demand 2 of the control registers: what a write of CNTKCTL, CNTHCTL or CNTPOFF took reads back, cut to the stored bits, and
+-- written back stays.
 use Prim.Native.Nat.{ℕ}
 use mathlib.Core.List.{List, _∷_}
 use mathlib.Core.Logic.{_⊎_}
@@ -27,6 +28,15 @@ ReadsBack register stored =
     PermittedRead (endState accessOf s (w ∷ between)) r register →
     accessOf (endState accessOf s (w ∷ between)) r .answer ≡ doneRead (r .word) (known (stored s (writtenOperand w)))
 
+-- and what it then holds, written back, changes nothing: who reads, turns some bits and writes turns those alone
+abbrev pub Stays : Target → (State → ℕ) → Type 0
+Stays register held =
+    (s : State) (w again : Access) →
+    PermittedWrite s w register →
+    PermittedWrite (accessOf s w .next) again register →
+    writtenOperand again ≡ held (accessOf s w .next) →
+    accessOf (accessOf s w .next) again .next ≡ accessOf s w .next
+
 -- the names of the three
 abbrev pub IsControl : Name → Type 0
 IsControl name = (name ≡ Name.Cntkctl) ⊎ (name ≡ Name.Cnthctl) ⊎ (name ≡ Name.Cntpoff)
@@ -48,3 +58,6 @@ pub record ControlsReadBack : Type 0 where
   pub cntkctl : ReadsBack Cntkctl (λ s x. storedCntkctl (s .features .ecv) x)
   pub cnthctl : ReadsBack Cnthctl (λ s x. storedCnthctl (s .controls .e2h) (s .features .ecv) x)
   pub cntpoff : ReadsBack Cntpoff (λ s x. x)
+  pub cntkctlStays : Stays Cntkctl (λ s. s .controls .cntkctl)
+  pub cnthctlStays : Stays Cnthctl (λ s. s .controls .cnthctl)
+  pub cntpoffStays : Stays Cntpoff (λ s. s .cntpoff)

@@ -155,6 +155,12 @@ LeftAlone =
     NoneReaches OfTheLease s accesses →
     (endState accessOf s accesses .cntvoff ≡ s .cntvoff) × SameLease s (endState accessOf s accesses)
 
+-- so a permitted write of CNTKCTL, CNTHCTL or CNTPOFF moves no lease
+pub record ControlsMoveNone : Type 0 where
+  pub cntkctl : (s : State) (a : Access) → PermittedWrite s a Cntkctl → SameLease s (accessOf s a .next)
+  pub cnthctl : (s : State) (a : Access) → PermittedWrite s a Cnthctl → SameLease s (accessOf s a .next)
+  pub cntpoff : (s : State) (a : Access) → PermittedWrite s a Cntpoff → SameLease s (accessOf s a .next)
+
 -- ---- 4. TVAL tells the truth
 
 -- the ticks that are left at virtual count w of a lease of the operand x that was taken at v: v plus n, less w
@@ -216,5 +222,6 @@ pub record LeaseClaim : Type 0 where
   pub endsAtTheDeadline : EndsAtTheDeadline
   pub notEarlyNotLate : NotEarlyNotLate
   pub leftAlone : LeftAlone
+  pub controlsMoveNone : ControlsMoveNone
   pub tvalTellsTheTruth : TvalTellsTheTruth
   pub byTheGuestAlone : ByTheGuestAlone

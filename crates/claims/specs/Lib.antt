@@ -5,6 +5,7 @@ pub mod Numbers
 pub mod Grounds
 pub mod Contexts
 pub mod Ten
+pub mod Reach
 pub mod Offset
 pub mod Writes
 pub mod ReadBack

@@ -10,7 +10,7 @@ use Rattle.rules.specs.Context.{impossibleAt}
 use Rattle.rules.specs.Access.{accessOf}
 
 -- an MRS or MSR of CNTPOFF at EL2, with ECV and ECVEn 0, in a context that can be
-pub record CntpoffKept (s : State) (a : Access) : Type 0 where
+pub record CntpoffToEl3 (s : State) (a : Access) : Type 0 where
   pub name : nameOf (a .word) ≡ Lookup.Named Name.Cntpoff
   pub possible : impossibleAt s (a .level) ≡ false
   pub level : a .level ≡ 2
@@ -18,5 +18,5 @@ pub record CntpoffKept (s : State) (a : Access) : Type 0 where
   pub ecven : s .controls .ecven ≡ false
 
 pub record TenExactlyWhen : Type 0 where
-  pub trapped : (s : State) (a : Access) → CntpoffKept s a → accessOf s a .answer .number ≡ 10
-  pub reason : (s : State) (a : Access) → accessOf s a .answer .number ≡ 10 → CntpoffKept s a
+  pub trapped : (s : State) (a : Access) → CntpoffToEl3 s a → accessOf s a .answer .number ≡ 10
+  pub reason : (s : State) (a : Access) → accessOf s a .answer .number ≡ 10 → CntpoffToEl3 s a

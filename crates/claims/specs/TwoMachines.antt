@@ -29,7 +29,7 @@ secondMachine =
       timers = put (six (λ _. timerOf 5 true false)) Cntv (start .timers .cntv);
     }
 
--- the guest sets its virtual timer by TVAL, as in reading 4, reads CNTVCT, as in reading 1, and takes it from EL0 by CNTKCTL
+-- the guest sets its virtual timer by TVAL, as in reading 4, reads CNTVCT, as in reading 1, and shuts it to EL0 by CNTKCTL
 abbrev pub asks : ℕ → List Access
 asks count =
     anAccess 0xD51BE301 EL1 0xFFFFFFFF count

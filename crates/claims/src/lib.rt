@@ -7,6 +7,7 @@ ghost use Rattle.claims.specs.Numbers.{EachAnswer, EachRecord, EachRun};
 ghost use Rattle.claims.specs.Grounds.{FiveExactlyWhen};
 ghost use Rattle.claims.specs.Contexts.{NoWriteMakesFive};
 ghost use Rattle.claims.specs.Ten.{TenExactlyWhen};
+ghost use Rattle.claims.specs.Reach.{WhoReachesControls};
 ghost use Rattle.claims.specs.Offset.{WhoSeesCntpoff};
 ghost use Rattle.claims.specs.Writes.{WritesChangeOne, ReadsGive, DoneIsPermitted};
 ghost use Rattle.claims.specs.ReadBack.{TimerReadsBack, TvalReadsBack, LeftAsWritten, EnabledAfterwards, ReadFollowsWrite};
@@ -35,6 +36,7 @@ pub fn every_claim_holds()
     ensures { λ _. ⌜ FiveExactlyWhen ⌝ }
     ensures { λ _. ⌜ NoWriteMakesFive ⌝ }
     ensures { λ _. ⌜ TenExactlyWhen ⌝ }
+    ensures { λ _. ⌜ WhoReachesControls ⌝ }
     ensures { λ _. ⌜ WhoSeesCntpoff ⌝ }
     ensures { λ _. ⌜ WritesChangeOne ⌝ }
     ensures { λ _. ⌜ ReadsGive ⌝ }

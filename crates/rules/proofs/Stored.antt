@@ -1,7 +1,7 @@
 -- What a write of a control register stores. The masks are computed. In plain numbers: a field that lies above others makes one
 -- number with them, so that what is stored is all that is below some bit, and with ECV a part that is above.
 -- Assumes nothing.
-use Prim.Native.Nat.{ℕ, _+_, _*_, _/_, _%_, _^_}
+use Prim.Native.Nat.{ℕ, _+_, _*_, _/_, _%_, _^_, _<_}
 use mathlib.Core.Bool.{Bool, true, false, cond}
 use mathlib.Core.Path.{_≡_, refl, sym, ap, _∙_}
 use native.Mathlib.Omega.{arith}
@@ -69,3 +69,55 @@ cnthctl-plain false true x =
     ∙ ap (λ (y : ℕ). x % 2 ^ 8 + y) (nothing _ ∙ nothing _ ∙ from-12 x)
     ∙ omega arith
 cnthctl-plain false false x = ap (λ (y : ℕ). at x 0 0 + (at x 1 1 + y)) (nothing _) ∙ to-7 x 0 ∙ omega arith
+
+-- without ECV nothing is stored from bit 12 on, so that no write makes a context that 5 refuses
+pub below-12 : (e2h : Bool) (x : ℕ) → storedCnthctl e2h false x < 2 ^ 12
+below-12 true x = rw (cnthctl-plain true false x) (omega arith)
+below-12 false x = rw (cnthctl-plain false false x) (omega arith)
+
+-- ---- written back, it stays
+
+eight-bits : (x : ℕ) → x % 2 ^ 8 < 2 ^ 8
+eight-bits x = omega arith
+
+four-bits : (x : ℕ) → bits 11 8 x < 2 ^ 4
+four-bits x = omega arith
+
+six-bits : (x : ℕ) → bits 17 12 x < 2 ^ 6
+six-bits x = omega arith
+
+-- a number of three parts, and of those that are there
+all-three : (a b c : ℕ) → a < 2 ^ 8 → b < 2 ^ 4 → c < 2 ^ 6 → (y : ℕ) → y ≡ a + b * 2 ^ 8 + c * 2 ^ 12 → y % 2 ^ 8 + bits 11 8 y * 2 ^ 8 + bits 17 12 y * 2 ^ 12 ≡ y
+all-three a b c h k l y e = omega arith
+
+second-alone : (a b : ℕ) → a < 2 ^ 8 → b < 2 ^ 4 → (y : ℕ) → y ≡ a + b * 2 ^ 8 + 0 → y % 2 ^ 8 + bits 11 8 y * 2 ^ 8 + 0 ≡ y
+second-alone a b h k y e = omega arith
+
+third-alone : (a c : ℕ) → a < 2 ^ 8 → c < 2 ^ 6 → (y : ℕ) → y ≡ a + 0 + c * 2 ^ 12 → y % 2 ^ 8 + 0 + bits 17 12 y * 2 ^ 12 ≡ y
+third-alone a c h k y e = omega arith
+
+first-alone : (a y : ℕ) → a < 2 ^ 8 → y ≡ a + 0 + 0 → y % 2 ^ 8 + 0 + 0 ≡ y
+first-alone a y h e = omega arith
+
+pub cnthctl-stays : (e2h ecv : Bool) (x : ℕ) → storedCnthctl e2h ecv (storedCnthctl e2h ecv x) ≡ storedCnthctl e2h ecv x
+cnthctl-stays true true x =
+    cnthctl-plain true true _ ∙ all-three _ _ _ (eight-bits x) (four-bits x) (six-bits x) _ (cnthctl-plain true true x)
+cnthctl-stays true false x =
+    cnthctl-plain true false _ ∙ second-alone _ _ (eight-bits x) (four-bits x) _ (cnthctl-plain true false x)
+cnthctl-stays false true x =
+    cnthctl-plain false true _ ∙ third-alone _ _ (eight-bits x) (six-bits x) _ (cnthctl-plain false true x)
+cnthctl-stays false false x = cnthctl-plain false false _ ∙ first-alone _ _ (eight-bits x) (cnthctl-plain false false x)
+
+ten-and-one : (a b : ℕ) → a < 2 ^ 10 → b < 2 → (y : ℕ) → y ≡ a + b * 2 ^ 17 → y % 2 ^ 10 + bits 17 17 y * 2 ^ 17 ≡ y
+ten-and-one a b h k y e = omega arith
+
+ten-alone : (a y : ℕ) → a < 2 ^ 10 → y ≡ a + 0 → y % 2 ^ 10 + 0 ≡ y
+ten-alone a y h e = omega arith
+
+ten-bits : (x : ℕ) → (x % 2 ^ 10 < 2 ^ 10) × (bits 17 17 x < 2)
+ten-bits x = (omega arith, omega arith)
+
+pub cntkctl-stays : (ecv : Bool) (x : ℕ) → storedCntkctl ecv (storedCntkctl ecv x) ≡ storedCntkctl ecv x
+cntkctl-stays true x =
+    cntkctl-plain true _ ∙ ten-and-one _ _ (ten-bits x .0) (ten-bits x .1) _ (cntkctl-plain true x)
+cntkctl-stays false x = cntkctl-plain false _ ∙ ten-alone _ _ (ten-bits x .0) (cntkctl-plain false x)

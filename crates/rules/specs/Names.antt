@@ -78,7 +78,7 @@ nameTable =
     ∷ row (Cnthvs Tval) 3 4 14 4 0
     ∷ row (Cnthvs Ctl) 3 4 14 4 1
     ∷ row (Cnthvs Cval) 3 4 14 4 2
-    ∷ row Cntkctl 3 0 14 1 0
+    ∷ row Cntkctl 3 0 14 1 0  -- document 02, request 1, from here
     ∷ row Cnthctl 3 4 14 1 0
     ∷ row Cntpoff 3 4 14 0 6
     ∷ []

@@ -56,7 +56,8 @@ cntkctlFields ecv =
     ∷ one EVNTIS 17 ecv
     ∷ []
 
--- CNTHCTL: with E2H 0 bits 8 to 11 are reserved, and bits 0 and 1 have other names; bits above 17 are reserved
+-- CNTHCTL: with E2H 0 bits 8 to 11 are reserved, and bits 0 and 1 have other names; so are bits above 17, of which the page
+-- gives 18 and 19, CNTVMASK and CNTPMASK, to Realm alone
 unfoldable pub cnthctlFields : Bool → Bool → List Field
 cnthctlFields e2h ecv =
     one EL1PCTEN 0 (not e2h)
@@ -100,12 +101,12 @@ keeps stores mask = record { stores = stores; mask = mask }
 
 abbrev pub maskTable : List Mask
 maskTable =
-    keeps (storedCntkctl false) 0x3FF
-    ∷ keeps (storedCntkctl true) 0x203FF
-    ∷ keeps (storedCnthctl false false) 0xFF
-    ∷ keeps (storedCnthctl false true) 0x3F0FF
-    ∷ keeps (storedCnthctl true false) 0xFFF
-    ∷ keeps (storedCnthctl true true) 0x3FFFF
+    keeps (storedCntkctl false) 0x3FF  -- CNTKCTL
+    ∷ keeps (storedCntkctl true) 0x203FF  -- with ECV
+    ∷ keeps (storedCnthctl false false) 0xFF  -- CNTHCTL, E2H 0
+    ∷ keeps (storedCnthctl false true) 0x3F0FF  -- with ECV
+    ∷ keeps (storedCnthctl true false) 0xFFF  -- CNTHCTL, E2H 1
+    ∷ keeps (storedCnthctl true true) 0x3FFFF  -- with ECV
     ∷ []
 
 abbrev allOnes : ℕ

@@ -1,4 +1,4 @@
--- 'Values' and 'Timer met': what a register that was reached reads as, and what a write leaves in it. Nothing here knows
+-- 'Values', 'Stored bits' and 'Timer met': what a register that was reached reads as, and what a write leaves in it. Nothing here knows
 -- of gates.
 use Prim.Native.Nat.{ℕ, _+_, _-_, _^_}
 use mathlib.Core.Bool.{Bool, cond, not, _&&_}

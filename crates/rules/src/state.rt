@@ -1,6 +1,6 @@
 // The machine that is modelled (RULES, 'The machine we model'), its fields in the order given there. EL0 to EL3 all exist
 // and use AArch64. What is left out, nested virtualization, Realm, CNTPS, AArch32, event streams and debug state, has no
-// field; nor has a last count, since any count is allowed.
+// field of its own; nor has a last count, since any count is allowed.
 
 // The three yes/no facts; `ecv` stands for the feature of CNTPOFF too.
 #[repr(C)]

@@ -71,6 +71,7 @@ fn the_readings_give_what_the_bench_gave() {
             "done 0xFFFFFFFFFFFFFF9C (-100)",
             "done 0xFFFFFFFFFFFFFE75 (-395)",
             "refused, 4: not MRS or MSR, or not in the name table",
+            "trap to EL1, class 0x18",
         ]
     );
 }

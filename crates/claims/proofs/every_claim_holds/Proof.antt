@@ -7,6 +7,7 @@ use Rattle.claims.proofs.Numbers.{each-answer, each-record, each-run}
 use Rattle.claims.proofs.Grounds.{five-exactly-when}
 use Rattle.claims.proofs.Contexts.{no-write-makes-five}
 use Rattle.claims.proofs.Ten.{ten-exactly-when}
+use Rattle.claims.proofs.Reach.{who-reaches-controls}
 use Rattle.claims.proofs.Offset.{who-sees-cntpoff}
 use Rattle.claims.proofs.Writes.{writes-change-one, reads-give, done-is-permitted}
 use Rattle.claims.proofs.ReadBack.{timer-reads-back, tval-reads-back, left-as-written, enabled-afterwards, read-follows-write}
@@ -41,6 +42,7 @@ returns c =
     and five-exactly-when
     and no-write-makes-five
     and ten-exactly-when
+    and who-reaches-controls
     and who-sees-cntpoff
     and writes-change-one
     and reads-give

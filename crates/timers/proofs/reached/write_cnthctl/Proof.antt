@@ -8,7 +8,7 @@ stored-cnthctl-requires : tie.Need-stored-cnthctl-requires
 stored-cnthctl-requires c κs = search needs
 
 returns : tie.Need-returns
-returns c = rw (c .before .stored-cnthctl .ensures)
+returns c = rw (← c .before .stored-cnthctl .ensures)
 
 pub write-cnthctl-spec : {M : Type 1} → statement M
 write-cnthctl-spec = tie.close (tie.spec stored-cnthctl-requires returns)

@@ -8,7 +8,7 @@ stored-cntkctl-requires : tie.Need-stored-cntkctl-requires
 stored-cntkctl-requires c κs = search needs
 
 returns : tie.Need-returns
-returns c = rw (c .before .stored-cntkctl .ensures)
+returns c = rw (← c .before .stored-cntkctl .ensures)
 
 pub write-cntkctl-spec : {M : Type 1} → statement M
 write-cntkctl-spec = tie.close (tie.spec stored-cntkctl-requires returns)
