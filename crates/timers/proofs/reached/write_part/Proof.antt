@@ -22,7 +22,7 @@ put-requires c κs = search needs
 
 returns : tie.Need-returns
 unfolding writeOf
-returns c = rw (c .put .ensures, c .before .write-timer .ensures, c .before .before .count-of .ensures, c .before .before .before .offset-seen .ensures, c .before .before .before .before .get .ensures)
+returns c = rw (← c .before .before .before .before .get .ensures, ← c .before .before .before .offset-seen .ensures, ← c .before .before .count-of .ensures, ← c .before .write-timer .ensures, c .put .ensures)
 
 pub write-part-spec : {M : Type 1} → statement M
 write-part-spec =
