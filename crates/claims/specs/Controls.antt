@@ -28,7 +28,7 @@ ReadsBack register stored =
     PermittedRead (endState accessOf s (w ∷ between)) r register →
     accessOf (endState accessOf s (w ∷ between)) r .answer ≡ doneRead (r .word) (known (stored s (writtenOperand w)))
 
--- and what it then holds, written back, changes nothing: who reads, turns some bits and writes turns those alone
+-- and what it holds after a write, written back, changes nothing
 abbrev pub Stays : Target → (State → ℕ) → Type 0
 Stays register held =
     (s : State) (w again : Access) →
