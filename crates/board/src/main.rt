@@ -1,5 +1,7 @@
 // Runs a journal from standard input, from the start of the readings (RULES, 'Twelve readings from the bench'), and writes
 // the answers to standard output; a journal that is refused gets none.
+#![tactic(auto)]
+
 mod start_state;
 
 use libc::{STDIN_FILENO, STDOUT_FILENO};

@@ -34,7 +34,7 @@ use Rattle.rules.specs.Values.{known, read_timer, write_timer, read_of, write_of
 use Rattle.rules.specs.Answers.{trap_to_el1, trap_to_el2, trap_to_el3, not_a_timer_access, impossible_context, done_read, done_write, undefined_at, trapped, refused}
 use Rattle.rules.specs.Context.{impossible, impossible_at}
 use Rattle.rules.specs.Access.{permitted, ruled, served, access_of}
-use Rattle.rules.proofs.Timers.{get_put_other}
+use Rattle.rules.proofs.SixTimers.{get_put_other}
 use Rattle.claims.specs.Desk.{Desk, Permitted}
 use Rattle.claims.specs.Guests.{TrappedGuest, Own, own, with_own, Alike, as_seen, SameShown, AllShown, NothingElseMoved, OthersStand, AlikeAgain, OneAlike, OneAccess, SequencesAlike, Demand3, OutOfReach, GuestClaim}
 use Rattle.claims.proofs.GuestGates.{OwnOnly, GuestFacts, guest_facts, own_only, and_false}

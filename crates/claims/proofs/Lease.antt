@@ -33,7 +33,7 @@ use Rattle.rules.specs.Answers.{done_read}
 use Rattle.rules.specs.Context.{impossible}
 use Rattle.rules.specs.Access.{access_of}
 use Rattle.rules.specs.Lines.{line_of, lines_of}
-use Rattle.rules.proofs.Timers.{get_put_other}
+use Rattle.rules.proofs.SixTimers.{get_put_other}
 use Rattle.rules.proofs.Lease.{value_then_control, control_then_value, raised_at, masked_line, status_at, cntv_count, ahead_from, ahead_wraps, back_from, back_wraps, left_at, left_ahead, left_over, left_back, small_signed, large_signed}
 use Rattle.claims.specs.Desk.{end_state, Permitted, PermittedWrite, PermittedRead}
 use Rattle.claims.specs.Guests.{Own, Alike, SequencesAlike}

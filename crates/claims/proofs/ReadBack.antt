@@ -25,7 +25,7 @@ use Rattle.rules.specs.States.{with_timers}
 use Rattle.rules.specs.Values.{read_tval, write_ctl, read_timer, write_timer, read_of, write_of}
 use Rattle.rules.specs.Answers.{done_read}
 use Rattle.rules.specs.Access.{access_of}
-use Rattle.rules.proofs.Timers.{get_put_same, get_put_other, part_kept}
+use Rattle.rules.proofs.SixTimers.{get_put_same, get_put_other, part_kept}
 use Rattle.rules.proofs.Verdicts.{cntp_holds, cntv_holds, cnthp_holds, cnthvs_holds}
 use Rattle.claims.specs.Desk.{end_state, Permitted, PermittedWrite, PermittedRead}
 use Rattle.claims.proofs.Kept.{all_keep}

@@ -29,7 +29,7 @@ use Rattle.rules.specs.Verdicts.{verdict_of}
 use Rattle.rules.specs.Access.{permitted, access_of}
 use Rattle.rules.proofs.Rules.{at_level_holds}
 use Rattle.rules.proofs.Verdicts.{cntp_holds, cntv_holds, cnthp_holds, cnthvs_holds, cntkctl_holds, cnthctl_holds, cntpoff_holds}
-use Rattle.rules.proofs.Timers.{get_put_same}
+use Rattle.rules.proofs.SixTimers.{get_put_same}
 use Rattle.claims.specs.Desk.{PermittedWrite}
 use Rattle.claims.specs.Writes.{OnePart, OneRegister, WritesChangeOne, ReadsGive, DoneIsPermitted}
 use Rattle.claims.proofs.Ways.{ways, ends}

@@ -1,5 +1,7 @@
 // What the rulebook comes to: the customer's demands (RULES, 'The three demands'), and the lease that they are for, as
 // theorems over the definitions that the code is proved to equal. specs/ states them, proofs/ proves them.
+#![tactic(auto)]
+
 ghost use Rattle.rules.specs.Readings.{ReadingsHold};
 ghost use Rattle.rules.specs.Stored.{MasksHold};
 ghost use Rattle.claims.specs.Refusals.{RefusalsMoveNothing, RecordRefusalsMoveNothing, RunRefusalsMoveNothing, ReadsMoveNothing};

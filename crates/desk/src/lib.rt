@@ -1,4 +1,6 @@
 // The answer desk: one access answered by value, and which timer lines are raised.
+#![tactic(auto)]
+
 mod answers;
 mod context;
 mod line;

@@ -1,4 +1,6 @@
 // Who may touch what: the facts of a state at a level, and the verdict on an access to each register.
+#![tactic(auto)]
+
 mod cntp;
 mod cntv;
 mod control;

@@ -1,6 +1,8 @@
 // The library that a hypervisor links: the desk, the run and the lines question over memory that the trap handler lends and finds
 // changed in place. Each parameter is a pointer or a number (a slice is one of each), and each result a number or nothing, so one
 // compiled module is right under every calling convention. Their names are those that C sees, so they begin with the library's.
+#![tactic(auto)]
+
 ghost use Rattle.std.specs.Prelude.{◌≡◌};
 ghost use Rattle.rules.specs.Access.{access_of};
 ghost use Rattle.rules.specs.Journal.{run_of, buffer_after};

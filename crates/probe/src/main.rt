@@ -1,4 +1,6 @@
 // The test bench: any state and a journal in; answers, final state and lines out (docs/FORMATS.md).
+#![tactic(auto)]
+
 mod image;
 
 ghost use Rattle.std.specs.Prelude.{◌≤◌, length};

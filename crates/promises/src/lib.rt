@@ -1,5 +1,7 @@
 // That every answer is pinned down: each public promise of the libraries admits one answer only. Theorems over the functions' own
 // contracts: specs/ states them, proofs/ proves them.
+#![tactic(auto)]
+
 ghost use Rattle.promises.specs.OneAnswer.{EachPromise};
 
 // It does nothing, and is not proved without the theorems: `EachPromise` is its promise, and its proof cites

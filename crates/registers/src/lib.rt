@@ -1,4 +1,6 @@
 // From an instruction word to the name of a timer register, its direction and its Rt; and from a syndrome to the word.
+#![tactic(auto)]
+
 mod lookup;
 mod register;
 mod syndrome;

@@ -2,7 +2,7 @@
 use rules::{Name, Part};
 
 // The numbers are as wide as the word that they are compared with.
-#[derive(Drop)]
+#[derive(Clone, Copy)]
 pub struct Register {
     pub name: Name,
     pub op0: u32,

@@ -4,5 +4,5 @@ pub mod Lease
 pub mod Readings
 pub mod Rules
 pub mod Stored
-pub mod Timers
+pub mod SixTimers
 pub mod Verdicts

@@ -1,7 +1,7 @@
 // One trapped access as it comes in: the instruction word, the exception level, what register Rt holds, and the physical count
 // (RULES, 'The machine we model' and 'Instruction words and register names').
 #[repr(C)]
-#[derive(Drop)]
+#[derive(Clone, Copy)]
 pub struct Access {
     pub word: u32,
     pub level: u8,

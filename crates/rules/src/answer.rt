@@ -2,14 +2,14 @@
 use crate::state::State;
 
 // What a register reads as: its bits, those that are unknown given as 0, and the mask that names the unknown ones.
-#[derive(Drop)]
+#[derive(Clone, Copy)]
 pub struct Value {
     pub value: u64,
     pub mask: u64,
 }
 
 #[repr(C)]
-#[derive(Drop)]
+#[derive(Clone, Copy)]
 pub struct Answer {
     pub number: u8,
     pub rt: u8,
@@ -19,7 +19,7 @@ pub struct Answer {
 
 // An answer, and the state that the access leaves.
 #[repr(C)]
-#[derive(Drop)]
+#[derive(Clone, Copy)]
 pub struct Outcome {
     pub answer: Answer,
     pub next: State,
@@ -27,7 +27,7 @@ pub struct Outcome {
 
 // The answer to the lines question: its number, and which of the six lines are raised.
 #[repr(C)]
-#[derive(Drop)]
+#[derive(Clone, Copy)]
 pub struct Lines {
     pub number: u8,
     pub cntp: bool,

@@ -1,7 +1,7 @@
 // What the rules ask of a state at a level (RULES, 'Who may touch what'): its words and bits, each by its name.
 
 // The bits of CNTKCTL_EL1.
-#[derive(Drop)]
+#[derive(Clone, Copy)]
 pub struct Cntkctl {
     pub el0pcten: bool,
     pub el0vcten: bool,
@@ -11,7 +11,7 @@ pub struct Cntkctl {
 
 // The bits of CNTHCTL_EL2, each from its own place; `el1pcten` has two, of which E2H picks one. A rule asks a name that only
 // one layout has with that E2H alone.
-#[derive(Drop)]
+#[derive(Clone, Copy)]
 pub struct Cnthctl {
     pub el0pcten: bool,
     pub el0vcten: bool,
@@ -25,7 +25,7 @@ pub struct Cnthctl {
     pub el1tvct: bool,
 }
 
-#[derive(Drop)]
+#[derive(Clone, Copy)]
 pub struct Facts {
     pub level: u8,
     pub vhe: bool,

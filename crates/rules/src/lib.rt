@@ -1,4 +1,6 @@
 // The types of the answer desk, by value. What they mean, the rulebook of docs/RULES.md, stands in specs/.
+#![tactic(auto)]
+
 mod access;
 mod answer;
 mod facts;

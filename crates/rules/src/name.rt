@@ -1,14 +1,14 @@
 // The names by which registers are known (RULES, 'Instruction words and register names').
 
 // The three registers of a timer.
-#[derive(Drop)]
+#[derive(Clone, Copy)]
 pub enum Part {
     Tval,
     Ctl,
     Cval,
 }
 
-#[derive(Drop)]
+#[derive(Clone, Copy)]
 pub enum Name {
     Cntpct,
     Cntvct,
@@ -25,7 +25,7 @@ pub enum Name {
 }
 
 // What an instruction word is taken to: a name, or none if it is no MRS or MSR or not in the name table.
-#[derive(Drop)]
+#[derive(Clone, Copy)]
 pub enum Lookup {
     Named(Name),
     NotNamed,

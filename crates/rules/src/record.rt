@@ -8,7 +8,7 @@ pub const RECORD_BYTES: usize = 24;
 // The most records that a journal may have.
 pub const RECORD_LIMIT: usize = 1024;
 
-#[derive(Drop)]
+#[derive(Clone, Copy)]
 pub struct Record {
     pub access: Access,
     pub reserved: u32,
@@ -16,7 +16,7 @@ pub struct Record {
 
 // The number that a run answers itself, and the state that it leaves.
 #[repr(C)]
-#[derive(Drop)]
+#[derive(Clone, Copy)]
 pub struct Run {
     pub number: u8,
     pub next: State,

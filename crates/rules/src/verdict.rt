@@ -2,7 +2,7 @@
 use crate::name::Part;
 use crate::state::TimerName;
 
-#[derive(Drop)]
+#[derive(Clone, Copy)]
 pub enum Target {
     Cntpct,
     Cntvct,
@@ -13,7 +13,7 @@ pub enum Target {
     Cntpoff,
 }
 
-#[derive(Drop)]
+#[derive(Clone, Copy)]
 pub enum Verdict {
     Undefined,
     ToEl1,

@@ -1,5 +1,7 @@
 // What happens to a register that was reached: the counts, a timer read and written, and whether it is met. Nothing here
 // knows of gates.
+#![tactic(auto)]
+
 mod arithmetic;
 mod counts;
 mod reached;
