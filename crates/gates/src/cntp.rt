@@ -84,6 +84,7 @@ fn physical_timer(f: Facts, own: bool, p: Part) -> Verdict
     )
 }
 
+#[tactic(auto, unfolding(crate::specs::Redirect::redirected_of))]
 fn cntp_at_el0(f: Facts, p: Part) -> Verdict
     ensures { result ≡ cntp_el0 f p }
 {
@@ -105,6 +106,7 @@ fn cntp_at_el1(f: Facts, p: Part) -> Verdict
     )
 }
 
+#[tactic(auto, unfolding(rules::specs::Cntp::cntp, crate::specs::Redirect::redirected_of))]
 pub fn cntp(f: Facts, p: Part) -> Verdict
     ensures { result ≡ gate.cntp f p }
 {

@@ -48,6 +48,7 @@ fn virtual_timer(f: Facts, own: bool, p: Part) -> Verdict
     )
 }
 
+#[tactic(auto, unfolding(crate::specs::Redirect::redirected_of))]
 fn cntv_at_el0(f: Facts, p: Part) -> Verdict
     ensures { result ≡ cntv_el0 f p }
 {
@@ -67,6 +68,7 @@ fn cntv_at_el1(f: Facts, p: Part) -> Verdict
     Verdict::Reaches(Target::Timer(TimerName::Cntv, p))
 }
 
+#[tactic(auto, unfolding(rules::specs::Cntv::cntv, crate::specs::Redirect::redirected_of))]
 pub fn cntv(f: Facts, p: Part) -> Verdict
     ensures { result ≡ gate.cntv f p }
 {

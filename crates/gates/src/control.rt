@@ -5,6 +5,7 @@ ghost use Rattle.rules.specs.Control as gate;
 use rules::{Facts, Target, Verdict};
 
 // At EL2 with E2H 1 its name reaches CNTHCTL.
+#[tactic(auto, unfolding(rules::specs::Control::cntkctl))]
 pub fn cntkctl(f: Facts) -> Verdict
     ensures { result ≡ gate.cntkctl f }
 {
@@ -25,6 +26,7 @@ pub fn cntkctl(f: Facts) -> Verdict
     }
 }
 
+#[tactic(auto, unfolding(rules::specs::Control::cnthctl))]
 pub fn cnthctl(f: Facts) -> Verdict
     ensures { result ≡ gate.cnthctl f }
 {
@@ -36,6 +38,7 @@ pub fn cnthctl(f: Facts) -> Verdict
     }
 }
 
+#[tactic(auto, unfolding(rules::specs::Control::cntpoff))]
 pub fn cntpoff(f: Facts) -> Verdict
     ensures { result ≡ gate.cntpoff f }
 {

@@ -8,6 +8,7 @@ use crate::cntv::virtual_at_el0;
 use rules::{Facts, Target, Verdict};
 
 // EL1PCTEN stands for both EL1 bits of CNTP's rules: E2H has already picked its place.
+#[tactic(auto, unfolding(rules::specs::Counters::cntpct))]
 pub fn cntpct(f: Facts) -> Verdict
     ensures { result ≡ gate.cntpct f }
 {
@@ -38,6 +39,7 @@ fn cntvct_at_el1(f: Facts) -> Verdict
     Verdict::Reaches(Target::Cntvct)
 }
 
+#[tactic(auto, unfolding(rules::specs::Counters::cntvct))]
 pub fn cntvct(f: Facts) -> Verdict
     ensures { result ≡ gate.cntvct f }
 {

@@ -4,6 +4,7 @@ ghost use Rattle.rules.specs.El2 as gate;
 
 use rules::{Facts, Part, Target, TimerName, Verdict};
 
+#[tactic(auto, unfolding(rules::specs::El2::cntvoff))]
 pub fn cntvoff(f: Facts) -> Verdict
     ensures { result ≡ gate.cntvoff f }
 {
@@ -15,6 +16,7 @@ pub fn cntvoff(f: Facts) -> Verdict
     }
 }
 
+#[tactic(auto, unfolding(rules::specs::El2::cnthp))]
 pub fn cnthp(f: Facts, p: Part) -> Verdict
     ensures { result ≡ gate.cnthp f p }
 {
@@ -26,6 +28,7 @@ pub fn cnthp(f: Facts, p: Part) -> Verdict
     }
 }
 
+#[tactic(auto, unfolding(rules::specs::El2::cnthvs))]
 pub fn cnthvs(f: Facts, p: Part) -> Verdict
     ensures { result ≡ gate.cnthvs f p }
 {

@@ -56,6 +56,7 @@ pub fn el2_on(s: State) -> bool
     controls.ns | (features.sel2 & controls.eel2)
 }
 
+#[tactic(auto, unfolding(rules::specs::Words::facts_of))]
 pub fn facts(s: State, level: u8) -> Facts
     ensures { result ≡ facts_of s level }
 {
@@ -90,6 +91,7 @@ pub fn facts(s: State, level: u8) -> Facts
 }
 
 // Offset on does not look at the level.
+#[tactic(auto, unfolding(rules::specs::Words::facts_of))]
 pub fn offset_on(s: State) -> bool
     ensures { result ≡ offset_on s }
 {

@@ -4,6 +4,7 @@ ghost use Rattle.gates.specs.Redirect.{redirected_of};
 
 use rules::{Facts, Part, Target, TimerName, Verdict};
 
+#[tactic(auto, unfolding(crate::specs::Redirect::redirected_of))]
 pub fn redirected(
     f: Facts,
     own: bool,

@@ -9,6 +9,7 @@ use crate::counters::{cntpct, cntvct, read_only, self_synchronized};
 use crate::el2::{cnthp, cnthvs, cntvoff};
 use rules::{Facts, Name, Verdict};
 
+#[tactic(auto, unfolding(rules::specs::Verdicts::verdict_of))]
 pub fn verdict(f: Facts, name: Name, mrs: bool) -> Verdict
     ensures { result ≡ verdict_of f name mrs }
 {
