@@ -79,9 +79,9 @@ seen_by f x mine (Reaches Target.Cnthctl) = seen (refused not_a_timer_access) mi
 seen_by f x mine (Reaches Target.Cntpoff) = seen (refused not_a_timer_access) mine
 
 abbrev seen_of : Facts → Bool → Access → Own → Lookup → Seen
-seen_of f impossible x mine NotNamed = seen (refused not_a_timer_access) mine
-seen_of f impossible x mine (Named name) =
-    cond impossible (seen (refused impossible_context) mine) (seen_by f x mine (verdict_of f name (is_mrs x.word)))
+seen_of f is_impossible x mine NotNamed = seen (refused not_a_timer_access) mine
+seen_of f is_impossible x mine (Named name) =
+    cond is_impossible (seen (refused impossible_context) mine) (seen_by f x mine (verdict_of f name (is_mrs x.word)))
 
 -- on a state, that answer and the state with that part put in
 abbrev on : State → Seen → Outcome

@@ -11,7 +11,7 @@ use Rattle.rules.specs.declared.name.Lookup.{Lookup}
 use Rattle.rules.specs.declared.name.Name.{Name}
 use Rattle.rules.specs.declared.name.Part.TheVariants.{Tval, Ctl, Cval}
 use Rattle.rules.specs.declared.state.State.{State}
-use Rattle.rules.specs.declared.state.TimerName.TheVariants.{Cntv, Cnthp}
+use Rattle.rules.specs.declared.state.TimerName.TheVariants.{Cnthp}
 use Rattle.rules.specs.declared.verdict.Target.{Target}
 use Rattle.rules.specs.declared.verdict.Verdict.{Verdict}
 use Rattle.rules.specs.Words.{facts_of}

@@ -2,7 +2,7 @@
 -- of CNTPCT gives the count that the test picks.
 -- Assumes nothing.
 use Prim.Native.Nat.{ℕ, zero, suc, ◌≤◌}
-use mathlib.Core.Bool.{Bool, true, false, cond, not, ◌&&◌, ◌||◌, and-eq-true_iff, and_false}
+use mathlib.Core.Bool.{Bool, true, false, cond, not, ◌&&◌, ◌||◌, and-eq-true_iff, and-false}
 use mathlib.Core.Logic.{◌⊎◌, ⊎_elim}
 use mathlib.Core.Path.{◌≡◌, refl, sym, subst, ◌∙◌}
 use native.Mathlib.Omega.{arith}
@@ -67,7 +67,7 @@ module _ (s : State) where
   unseen : (level : ℕ) → (2 ≤ level) ⊎ (OffsetOn s → ⊥) → offset_seen (facts_of s level) ≡ false
   unfolding facts_of
   unseen level h =
-      ⊎_elim (λ (up : 2 ≤ level). rw (high level up)) (λ (off : OffsetOn s → ⊥). rw (is_false (offset_on s) (λ e. off (of_offset e))) (and_false (eqb level EL0 || eqb level EL1))) h
+      ⊎_elim (λ (up : 2 ≤ level). rw (high level up)) (λ (off : OffsetOn s → ⊥). rw (is_false (offset_on s) (λ e. off (of_offset e))) (and-false (eqb level EL0 || eqb level EL1))) h
 
 -- what CNTPCT reads as, by that test
 by_test : (s : State) (a : Access) (b : Bool) → offset_seen (facts_of s a.level) ≡ b → done_read a.word (read_of (facts_of s a.level) s a.count Cntpct) ≡ done_read a.word (known (cond b (a.count less s.cntpoff) a.count))

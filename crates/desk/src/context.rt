@@ -7,6 +7,7 @@ use gates::{cnthctl, el2_on};
 use rules::{Features, State};
 
 // The grounds that have no level.
+#[tactic(auto, unfolding(rules::specs::Context::impossible))]
 pub fn impossible(s: State) -> bool
     ensures { result ≡ rule.impossible s }
 {
@@ -19,6 +20,7 @@ pub fn impossible(s: State) -> bool
     (e2h & !vhe) | (eel2 & !sel2) | ((ecven | h.ecv | h.el1tvt | h.el1tvct) & !ecv)
 }
 
+#[tactic(auto, unfolding(rules::specs::Context::impossible_at))]
 pub fn impossible_at(s: State, level: u8) -> bool
     ensures { result ≡ impossible_at s level }
 {

@@ -19,6 +19,7 @@ fn line(offset_on: bool, s: State, physical: u64, t: TimerName) -> bool
     raised(timer, count_of(offset_on, s, physical, t))
 }
 
+#[tactic(auto, unfolding(rules::specs::Lines::lines_of, rules::specs::Lines::line_of))]
 pub fn lines(s: State, physical: u64) -> Lines
     ensures { result ≡ lines_of s physical }
 {

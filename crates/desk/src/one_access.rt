@@ -24,6 +24,7 @@ fn written_operand(a: Access) -> u64
     if zero { 0 } else { operand }
 }
 
+#[tactic(auto, unfolding(rules::specs::Access::permitted))]
 fn permitted(f: Facts, s: State, a: Access, target: Target) -> Outcome
     ensures { result ≡ rule.permitted f s a target }
 {
@@ -41,6 +42,7 @@ fn permitted(f: Facts, s: State, a: Access, target: Target) -> Outcome
     }
 }
 
+#[tactic(auto, unfolding(rules::specs::Access::ruled))]
 fn ruled(f: Facts, s: State, a: Access, verdict: Verdict) -> Outcome
     ensures { result ≡ rule.ruled f s a verdict }
 {
@@ -54,6 +56,7 @@ fn ruled(f: Facts, s: State, a: Access, verdict: Verdict) -> Outcome
     }
 }
 
+#[tactic(auto, unfolding(rules::specs::Access::served))]
 fn named(s: State, a: Access, name: Name) -> Outcome
     ensures { result ≡ served s a (Lookup.Named name) }
 {
@@ -68,6 +71,7 @@ fn named(s: State, a: Access, name: Name) -> Outcome
 }
 
 // Any access is answered, on any state.
+#[tactic(auto, unfolding(rules::specs::Access::served, rules::specs::Access::access_of))]
 pub fn access(s: State, a: Access) -> Outcome
     ensures { result ≡ access_of s a }
 {

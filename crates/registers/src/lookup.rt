@@ -35,6 +35,7 @@ impl Register {
     }
 
     // The name that a word is taken to: NotNamed for one that is not MRS or MSR, and for one that is not in the table.
+    #[tactic(auto, unfolding(rules::specs::Names::name_of))]
     pub fn named_by(word: u32) -> Lookup
         ensures { result ≡ name_of word }
     {

@@ -47,6 +47,7 @@ pub fn virtual_seen(f: Facts, s: State, physical: u64) -> u64
 }
 
 // A timer's count; `applies` says whether CNTPOFF comes off CNTP's.
+#[tactic(auto, unfolding(rules::specs::Counts::count_of))]
 pub fn count_of(applies: bool, s: State, physical: u64, t: TimerName) -> u64
     ensures { result ≡ count_of applies s physical t }
 {

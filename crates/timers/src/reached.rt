@@ -11,6 +11,7 @@ use crate::timer::{known, read_timer, write_timer};
 use controls::{stored_cnthctl, stored_cntkctl};
 use rules::{Facts, Part, State, Target, TimerName, Value};
 
+#[tactic(auto, unfolding(rules::specs::Values::read_of))]
 fn read_part(f: Facts, s: State, physical: u64, t: TimerName, p: Part) -> Value
     ensures { result ≡ read_of f s physical (Target.Timer t p) }
 {
@@ -36,6 +37,7 @@ fn read_cnthctl(s: State) -> Value
     known(controls.cnthctl as u64)
 }
 
+#[tactic(auto, unfolding(rules::specs::Values::read_of))]
 pub fn read(f: Facts, s: State, physical: u64, target: Target) -> Value
     ensures { result ≡ read_of f s physical target }
 {
@@ -50,6 +52,7 @@ pub fn read(f: Facts, s: State, physical: u64, target: Target) -> Value
     }
 }
 
+#[tactic(auto, unfolding(rules::specs::Values::write_of))]
 fn write_part(f: Facts, s: State, physical: u64, t: TimerName, p: Part, x: u64) -> State
     ensures { result ≡ write_of f s physical (Target.Timer t p) x }
 {
@@ -101,6 +104,7 @@ fn write_cnthctl(f: Facts, s: State, x: u64) -> State
 }
 
 // No write reaches a counter: MSR of one is Undefined.
+#[tactic(auto, unfolding(rules::specs::Values::write_of))]
 pub fn write(f: Facts, s: State, physical: u64, target: Target, x: u64) -> State
     ensures { result ≡ write_of f s physical target x }
 {

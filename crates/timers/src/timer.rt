@@ -88,6 +88,7 @@ fn write_ctl(t: Timer, x: u64) -> Timer
     }
 }
 
+#[tactic(auto, unfolding(rules::specs::Values::read_timer))]
 pub fn read_timer(t: Timer, p: Part, used: u64, condition: u64) -> Value
     ensures { result ≡ read_timer t p used condition }
 {
@@ -98,6 +99,7 @@ pub fn read_timer(t: Timer, p: Part, used: u64, condition: u64) -> Value
     }
 }
 
+#[tactic(auto, unfolding(rules::specs::Values::write_timer))]
 pub fn write_timer(t: Timer, p: Part, used: u64, x: u64) -> Timer
     ensures { result ≡ write_timer t p used x }
 {
