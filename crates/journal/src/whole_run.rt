@@ -39,6 +39,7 @@ fn serve_all(s: State, journal: &[u8], answers: &mut [u8], n: usize) -> State
 }
 
 // Any journal and any buffer is answered. With 7 or 8 nothing is written and the state is as before.
+#[tactic(auto, unfolding(rules::specs::Journal::run_of, rules::specs::Journal::buffer_after, rules::specs::Journal::state_after, rules::specs::Journal::answers_of))]
 pub fn run(s: State, journal: &[u8], answers: &mut [u8]) -> Run
     ensures value { result ≡ run_of s journal.now answers.old }
     ensures answers_after { answers.new ≡ buffer_after s journal.now answers.old }
