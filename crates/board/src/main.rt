@@ -4,19 +4,21 @@
 
 mod start_state;
 
-use libc::{STDIN_FILENO, STDOUT_FILENO};
 use rules::{RECORD_BYTES, RECORD_LIMIT};
 use start_state::start;
+use std::io;
+use std::io::{Read, Write};
 
-// Twice the longest journal, so that it is the run that refuses a longer one, and not the end of a buffer.
-const ROOM: usize = 2 * RECORD_LIMIT * RECORD_BYTES;
+// Twice the longest journal, so that it is the run that refuses a longer one, and not the end of what is read.
+const ROOM: u64 = 2 * RECORD_LIMIT as u64 * RECORD_BYTES as u64;
 
-fn main() {
-    let mut input = [0u8; ROOM];
-    let mut answers = [0u8; ROOM];
-    let n = io::read_full(STDIN_FILENO, &mut input);
-    let ran = journal::run(start(), &input[0..n], &mut answers);
+fn main(rt: HostRuntime) -> io::Result<()> {
+    let mut journal = Vec::new(rt.alloc());
+    rt.stdin().take(ROOM).read_to_end(&mut journal)?;
+    let mut answers = Vec::from_elem(rt.alloc(), 0u8, journal.len())?;
+    let ran = journal::run(start(), &journal, &mut answers);
     if ran.number == 0 {
-        io::write_all(STDOUT_FILENO, &answers[0..n]);
+        rt.stdout().write_all(&answers)?;
     }
+    Ok(())
 }

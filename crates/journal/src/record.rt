@@ -10,6 +10,7 @@ use rules::{Access, Answer, Outcome, RECORD_BYTES, Record, State};
 
 const RESERVED_BIT_SET: u8 = 6;
 
+#[tactic(auto, unfolding(rules::specs::Journal::record_at))]
 pub(crate) fn read_record(journal: &[u8], at: usize) -> Record
     requires { at + record_bytes ≤ length journal.now }
     ensures { result ≡ record_at journal.now at }
@@ -31,6 +32,7 @@ pub(crate) fn read_record(journal: &[u8], at: usize) -> Record
     }
 }
 
+#[tactic(auto, unfolding(rules::specs::Journal::record_served))]
 pub fn serve(s: State, r: Record) -> Outcome
     ensures { result ≡ record_served s r }
 {
@@ -63,6 +65,7 @@ fn whole(x: u64) -> u64
     x
 }
 
+#[tactic(auto, using(crate::proofs::Stores::three_words), unfolding(rules::specs::Journal::answer_bytes))]
 pub(crate) fn pack(bytes: &mut [u8], a: Answer)
     requires { length bytes.old ≡ record_bytes }
     ensures { bytes.new ≡ answer_bytes a }

@@ -11,8 +11,8 @@ const BUFFER_TOO_SHORT: u8 = 8;
 
 // One record served: its answer goes into its own 24 bytes of the buffer, and the rest of the buffer stays.
 fn turn(s: State, journal: &[u8], answers: &mut [u8], at: usize) -> State
-    requires record_bytes_in_bounds { at + record_bytes ≤ length journal.now }
-    requires record_bytes_in_bounds_2 { at + record_bytes ≤ length answers.old }
+    requires in_journal { at + record_bytes ≤ length journal.now }
+    requires in_answers { at + record_bytes ≤ length answers.old }
     ensures value { result ≡ (record_served s (record_at journal.now at)).next }
     ensures answers_after { answers.new ≡ take at answers.old ++ (answer_bytes (record_served s (record_at journal.now at)).answer ++ drop (at + record_bytes) answers.old) }
 {
@@ -24,8 +24,8 @@ fn turn(s: State, journal: &[u8], answers: &mut [u8], at: usize) -> State
 }
 
 fn serve_all(s: State, journal: &[u8], answers: &mut [u8], n: usize) -> State
-    requires record_bytes_in_bounds { n * record_bytes ≤ length journal.now }
-    requires record_bytes_in_bounds_2 { n * record_bytes ≤ length answers.old }
+    requires in_journal { n * record_bytes ≤ length journal.now }
+    requires in_answers { n * record_bytes ≤ length answers.old }
     ensures value { result ≡ state_after s journal.now n }
     ensures answers_after { answers.new ≡ answers_of s journal.now n ++ drop (n * record_bytes) answers.old }
 {
@@ -39,6 +39,7 @@ fn serve_all(s: State, journal: &[u8], answers: &mut [u8], n: usize) -> State
 }
 
 // Any journal and any buffer is answered. With 7 or 8 nothing is written and the state is as before.
+#[tactic(auto, unfolding(rules::specs::Journal::run_of, rules::specs::Journal::buffer_after, rules::specs::Journal::state_after, rules::specs::Journal::answers_of))]
 pub fn run(s: State, journal: &[u8], answers: &mut [u8]) -> Run
     ensures value { result ≡ run_of s journal.now answers.old }
     ensures answers_after { answers.new ≡ buffer_after s journal.now answers.old }

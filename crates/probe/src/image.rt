@@ -1,6 +1,8 @@
 // The image of a state: 128 bytes, fields in the order of RULES, 'The state', most significant bit first, zeros, 0xA5 last.
 use rules::{Controls, Features, State, Timer, Timers};
 
+pub const IMAGE_BYTES: usize = 128;
+
 fn bit(image: &[u8], at: usize) -> bool {
     let byte = at / 8;
     if byte < image.len() {
@@ -12,9 +14,9 @@ fn bit(image: &[u8], at: usize) -> bool {
 
 // A number with one more bit behind it.
 fn grown(x: u64, bit: bool) -> u64 {
-    let doubled = std::num::wrapping_add_u64(x, x);
+    let doubled = x.wrapping_add(x);
     if bit {
-        std::num::wrapping_add_u64(doubled, 1)
+        doubled.wrapping_add(1)
     } else {
         doubled
     }
@@ -24,7 +26,7 @@ fn field(image: &[u8], from: usize, width: usize) -> u64 {
     let mut x: u64 = 0;
     let mut i: usize = 0;
     while i < width {
-        x = grown(x, bit(image, std::num::wrapping_add_usize(from, i)));
+        x = grown(x, bit(image, from.wrapping_add(i)));
         i += 1;
     }
     x
@@ -36,8 +38,8 @@ fn word(image: &[u8], from: usize) -> u32 {
 
 fn timer(image: &[u8], from: usize) -> Timer {
     let cval = field(image, from, 64);
-    let enable = bit(image, std::num::wrapping_add_usize(from, 64));
-    let imask = bit(image, std::num::wrapping_add_usize(from, 65));
+    let enable = bit(image, from.wrapping_add(64));
+    let imask = bit(image, from.wrapping_add(65));
     Timer {
         cval,
         enable,
@@ -101,7 +103,7 @@ fn put_field(image: &mut [u8], end: usize, width: usize, x: u64) {
     let mut i: usize = 0;
     while i < width {
         i += 1;
-        put_bit(image, std::num::wrapping_sub_usize(end, i), rest % 2 == 1);
+        put_bit(image, end.wrapping_sub(i), rest % 2 == 1);
         rest = rest / 2;
     }
 }
@@ -109,9 +111,9 @@ fn put_field(image: &mut [u8], end: usize, width: usize, x: u64) {
 fn put_timer(image: &mut [u8], from: usize, t: Timer) {
     let enable = t.enable;
     let imask = t.imask;
-    put_field(image, std::num::wrapping_add_usize(from, 64), 64, t.cval);
-    put_bit(image, std::num::wrapping_add_usize(from, 64), enable);
-    put_bit(image, std::num::wrapping_add_usize(from, 65), imask);
+    put_field(image, from.wrapping_add(64), 64, t.cval);
+    put_bit(image, from.wrapping_add(64), enable);
+    put_bit(image, from.wrapping_add(65), imask);
 }
 
 fn put_features(image: &mut [u8], features: Features) {

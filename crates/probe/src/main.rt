@@ -5,12 +5,13 @@ mod image;
 
 ghost use Rattle.std.specs.Prelude.{◌≤◌, length};
 
-use image::{read_state, write_state};
-use libc::{STDIN_FILENO, STDOUT_FILENO};
+use image::{IMAGE_BYTES, read_state, write_state};
 use rules::{Lines, RECORD_BYTES, RECORD_LIMIT, State};
+use std::io;
+use std::io::{Read, Write};
 
-// An image and twice the longest journal, so that it is the run that refuses a longer one, and not the end of a buffer.
-const ROOM: usize = 128 + 2 * RECORD_LIMIT * RECORD_BYTES;
+// An image and twice the longest journal, so that it is the run that refuses a longer one, and not the end of what is read.
+const ROOM: u64 = IMAGE_BYTES as u64 + 2 * RECORD_LIMIT as u64 * RECORD_BYTES as u64;
 
 fn flag(on: bool, weight: u8) -> u8 {
     if on { weight } else { 0 }
@@ -23,35 +24,34 @@ fn lines_bytes(lines: Lines) -> [u8; 2] {
     [lines.number, low | high]
 }
 
-fn report(next: State, count: u64) {
-    let mut image = [0u8; 128];
+fn report(out: &mut impl Write, next: State, count: u64) -> io::Result<()> {
+    let mut image = [0u8; IMAGE_BYTES];
     write_state(&mut image, next);
-    io::write_all(STDOUT_FILENO, &image);
-    let lines = lines_bytes(desk::lines(next, count));
-    io::write_all(STDOUT_FILENO, &lines);
+    out.write_all(&image)?;
+    out.write_all(&lines_bytes(desk::lines(next, count)))
 }
 
-fn answer(state: State, journal: &[u8], answers: &mut [u8])
+fn answer(out: &mut impl Write, state: State, journal: &[u8], answers: &mut [u8]) -> io::Result<()>
     requires { length journal.now ≤ length answers.old }
 {
     let n = journal.len();
     let ran = journal::run(state, journal, answers);
     let next = ran.next;
     if ran.number == 0 {
-        io::write_all(STDOUT_FILENO, &answers[0..n]);
-        report(next, journal::last_count(journal));
+        out.write_all(&answers[0..n])?;
+        report(out, next, journal::last_count(journal))
     } else {
-        report(next, 0);
+        report(out, next, 0)
     }
 }
 
-fn main() {
-    let mut input = [0u8; ROOM];
-    let mut answers = [0u8; ROOM];
-    let n = io::read_full(STDIN_FILENO, &mut input);
-    if n < 128 {
-        return;
+fn main(rt: HostRuntime) -> io::Result<()> {
+    let mut input = Vec::new(rt.alloc());
+    rt.stdin().take(ROOM).read_to_end(&mut input)?;
+    if input.len() < IMAGE_BYTES {
+        return Ok(());
     }
-    let state = read_state(&input[0..128]);
-    answer(state, &input[128..n], &mut answers);
+    let (image, journal) = input.split_at(IMAGE_BYTES);
+    let mut answers = Vec::from_elem(rt.alloc(), 0u8, journal.len())?;
+    answer(&mut rt.stdout(), read_state(image), journal, &mut answers)
 }
