@@ -24,10 +24,8 @@ fn grown(x: u64, bit: bool) -> u64 {
 
 fn field(image: &[u8], from: usize, width: usize) -> u64 {
     let mut x: u64 = 0;
-    let mut i: usize = 0;
-    while i < width {
+    for i in 0..width {
         x = grown(x, bit(image, from.wrapping_add(i)));
-        i += 1;
     }
     x
 }
@@ -100,10 +98,8 @@ fn put_bit(image: &mut [u8], at: usize, on: bool) {
 // The low bits of a number, the last of them just before `end`.
 fn put_field(image: &mut [u8], end: usize, width: usize, x: u64) {
     let mut rest = x;
-    let mut i: usize = 0;
-    while i < width {
-        i += 1;
-        put_bit(image, end.wrapping_sub(i), rest % 2 == 1);
+    for i in 0..width {
+        put_bit(image, end.wrapping_sub(i + 1), rest % 2 == 1);
         rest = rest / 2;
     }
 }
@@ -142,8 +138,8 @@ fn put_timers(image: &mut [u8], timers: Timers) {
 }
 
 fn seal(image: &mut [u8]) {
-    if 127 < image.len() {
-        image[127] = 0xA5;
+    if IMAGE_BYTES <= image.len() {
+        image[IMAGE_BYTES - 1] = 0xA5;
     }
 }
 

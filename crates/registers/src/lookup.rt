@@ -23,7 +23,7 @@ impl Register {
     fn look_up(word: u32) -> Lookup
         ensures { result ≡ look_up name_table word }
     {
-        let all = Register::ALL;
+        let all = &Register::ALL;
         for i in 0..all.len() {
             let register = all[i];
             if register.is_named_by(word) {
