@@ -4,7 +4,7 @@
 use mathlib.Core.Path.{◌≡◌, sym, ◌∙◌}
 use Rattle.promises.specs.OneAnswer.{EachPromise}
 
-both_are : {A : Type 0} {x y v : A} → x ≡ v → y ≡ v → x ≡ y
+pub both_are : {A : Type 0} {x y v : A} → x ≡ v → y ≡ v → x ≡ y
 both_are p q = p ∙ sym q
 
 pub each_promise : EachPromise
