@@ -9,16 +9,17 @@ use start_state::start;
 use std::io;
 use std::io::{Read, Write};
 
-// Twice the longest journal, so that it is the run that refuses a longer one, and not the end of what is read.
-const ROOM: u64 = 2 * RECORD_LIMIT as u64 * RECORD_BYTES as u64;
+// Twice the longest journal, so that it is the run that refuses a longer one, and not the end of a buffer.
+const ROOM: usize = 2 * RECORD_LIMIT * RECORD_BYTES;
 
 fn main(rt: HostRuntime) -> io::Result<()> {
-    let mut journal = Vec::new(rt.alloc());
-    rt.stdin().take(ROOM).read_to_end(&mut journal)?;
-    let mut answers = Vec::from_elem(rt.alloc(), 0u8, journal.len())?;
-    let ran = journal::run(start(), &journal, &mut answers);
+    let mut input = [0u8; ROOM];
+    let mut answers = [0u8; ROOM];
+    let copied = io::copy(&mut rt.stdin().take(ROOM as u64), &mut &mut input[..])?;
+    let n = (copied as usize).min(ROOM);
+    let ran = journal::run(start(), &input[0..n], &mut answers);
     if ran.number == 0 {
-        rt.stdout().write_all(&answers)?;
+        rt.stdout().write_all(&answers[0..n])?;
     }
     Ok(())
 }

@@ -9,6 +9,8 @@ ghost use Rattle.rules.specs.Journal.{run_of, buffer_after};
 ghost use Rattle.rules.specs.Lines.{lines_of};
 ghost use Rattle.rules.specs.Syndromes.{word_of};
 
+pub mod pinned;
+
 use rules::{Access, Answer, Lines, State};
 
 #[unsafe(no_mangle)]

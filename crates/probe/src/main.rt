@@ -10,8 +10,8 @@ use rules::{Lines, RECORD_BYTES, RECORD_LIMIT, State};
 use std::io;
 use std::io::{Read, Write};
 
-// An image and twice the longest journal, so that it is the run that refuses a longer one, and not the end of what is read.
-const ROOM: u64 = IMAGE_BYTES as u64 + 2 * RECORD_LIMIT as u64 * RECORD_BYTES as u64;
+// An image and twice the longest journal, so that it is the run that refuses a longer one, and not the end of a buffer.
+const ROOM: usize = IMAGE_BYTES + 2 * RECORD_LIMIT * RECORD_BYTES;
 
 fn flag(on: bool, weight: u8) -> u8 {
     if on { weight } else { 0 }
@@ -46,12 +46,18 @@ fn answer(out: &mut impl Write, state: State, journal: &[u8], answers: &mut [u8]
 }
 
 fn main(rt: HostRuntime) -> io::Result<()> {
-    let mut input = Vec::new(rt.alloc());
-    rt.stdin().take(ROOM).read_to_end(&mut input)?;
-    if input.len() < IMAGE_BYTES {
+    let mut input = [0u8; ROOM];
+    let mut answers = [0u8; ROOM];
+    let copied = io::copy(&mut rt.stdin().take(ROOM as u64), &mut &mut input[..])?;
+    let n = (copied as usize).min(ROOM);
+    if n < IMAGE_BYTES {
         return Ok(());
     }
-    let (image, journal) = input.split_at(IMAGE_BYTES);
-    let mut answers = Vec::from_elem(rt.alloc(), 0u8, journal.len())?;
-    answer(&mut rt.stdout(), read_state(image), journal, &mut answers)
+    let state = read_state(&input[0..IMAGE_BYTES]);
+    answer(
+        &mut rt.stdout(),
+        state,
+        &input[IMAGE_BYTES..n],
+        &mut answers,
+    )
 }
