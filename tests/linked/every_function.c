@@ -1,5 +1,5 @@
-/* Asks for each function of the archive and has what the archive may ask for, so that a link without a C library succeeds exactly
-   if nothing else is undefined. It is never run. */
+/* Asks for each function of the archive and has what the archive may ask for, so that a link without a C library
+   succeeds exactly if nothing else is undefined. It is never run. */
 void elsterkabel_access_in(void);
 void elsterkabel_run_in(void);
 void elsterkabel_lines(void);
