@@ -3,11 +3,11 @@
 # otherwise, so it is told of; whether all is proved stays for rt to say.
 
 kit() {
-    dirname "$(dirname "$(rt doc)")"
+    dirname "$(rt doc)"
 }
 
 kit_toolchain() {
-    echo "$(kit)/on/$(uname -m)/toolchain"
+    echo "$(kit)/toolchain"
 }
 
 # warn_of_another_kit WHO: one line, where rt is not of the kit that is pinned

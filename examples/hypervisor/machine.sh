@@ -4,10 +4,12 @@
 
 archive=target/lib/aarch64/libelsterkabel.a
 
-# make_library: the archive, unless none of its sources is newer
+# make_library: the archive, unless none of its sources is newer; what rt leaves in a crate's out/ is none
 make_library() {
     local sources=(crates crates.txt tools/library)
-    if [ ! -e "$archive" ] || [ -n "$(find "${sources[@]}" -newer "$archive" -print -quit)" ]; then tools/library aarch64; fi
+    if [ ! -e "$archive" ] || [ -n "$(find "${sources[@]}" -name out -prune -o -newer "$archive" -print -quit)" ]; then
+        tools/library aarch64
+    fi
 }
 
 # build_hypervisor SOURCES OUT: leaves OUT/hypervisor.elf

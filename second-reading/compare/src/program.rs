@@ -60,11 +60,11 @@ impl Ran {
 }
 
 impl Program {
-    /// `probe`, from the environment variable PROBE or else from where the build leaves it.
+    /// `probe`, from the environment variable PROBE or else from where `rt` leaves it.
     pub fn probe() -> Result<Program, String> {
         Ok(Program {
             name: "probe".to_string(),
-            command: Program::found("PROBE", "target/bin/probe")?,
+            command: Program::found("PROBE", "crates/probe/out/probe")?,
         })
     }
 
@@ -125,40 +125,17 @@ impl Program {
     }
 
     /// The one place in Rust that decides how a program runs: as it is on a machine of its own
-    /// kind, an x86-64 program on an Arm machine under the kit's emulator, and an Arm program on
-    /// an x86-64 machine under that machine's.
+    /// kind, and an Arm program on an x86-64 machine under that machine's emulator. The kit has
+    /// none for the other way round, and runs on x86-64 alone.
     fn on_this_machine(path: &Path, machine: u16, here: &str) -> Result<Vec<OsString>, String> {
         match (machine, here) {
             (X86_64, "x86_64") | (AARCH64, "aarch64") => Ok(vec![path.into()]),
-            (X86_64, "aarch64") => Program::emulated(path, &kit()?),
             (AARCH64, "x86_64") => Ok(vec!["qemu-aarch64".into(), path.into()]),
             _ => Err(format!(
                 "{} is for ELF machine {machine}; this machine is {here} and has no emulator for it",
                 path.display()
             )),
         }
-    }
-
-    fn emulated(path: &Path, kit: &Path) -> Result<Vec<OsString>, String> {
-        let toolchain = kit.join("on/aarch64/toolchain");
-        let library = toolchain.join("lib");
-        let emulator = toolchain.join("bin/qemu-x86_64");
-        let loader = library.join("ld-linux-x86-64.so.2");
-        for part in [&emulator, &loader] {
-            if !part.is_file() {
-                return Err(format!(
-                    "the x86-64 program needs the kit's emulator here, and {} is not there",
-                    part.display()
-                ));
-            }
-        }
-        Ok(vec![
-            emulator.into(),
-            loader.into(),
-            "--library-path".into(),
-            library.into(),
-            path.into(),
-        ])
     }
 
     /// Gives the program its input and waits for its output and its end.
@@ -264,22 +241,6 @@ fn machine_of(path: &Path) -> io::Result<u16> {
     }
 }
 
-/// The kit's folder: `rt doc` prints the path of its docs/START-HERE.md.
-fn kit() -> Result<PathBuf, String> {
-    let said = |what: &str| {
-        format!("the x86-64 program needs the kit's emulator here, and `rt doc` {what}")
-    };
-    let output = Command::new("rt")
-        .arg("doc")
-        .output()
-        .map_err(|error| said(&format!("did not run: {error}")))?;
-    let text = String::from_utf8_lossy(&output.stdout);
-    text.lines()
-        .find_map(|line| line.trim().strip_suffix("/docs/START-HERE.md"))
-        .map(PathBuf::from)
-        .ok_or_else(|| said("named no docs/START-HERE.md"))
-}
-
 #[cfg(test)]
 mod tests {
     use super::*;
@@ -348,10 +309,10 @@ mod tests {
 
     #[test]
     fn a_machine_that_can_do_neither_is_named() {
-        let error = Program::on_this_machine(Path::new("/some/probe"), X86_64, "riscv64");
-        assert!(error.is_err_and(|error| error.contains("riscv64")));
-        let error = Program::emulated(Path::new("/some/probe"), Path::new("/no/kit"));
-        assert!(error.is_err_and(|error| error.contains("/no/kit/on/aarch64")));
+        for here in ["riscv64", "aarch64"] {
+            let error = Program::on_this_machine(Path::new("/some/probe"), X86_64, here);
+            assert!(error.is_err_and(|error| error.contains(here)));
+        }
     }
 
     #[test]
