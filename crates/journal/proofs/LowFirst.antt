@@ -52,9 +52,9 @@ module _ (b0 b1 b2 b3 b4 b5 b6 b7 : ℕ) where
 
 -- a word of bytes so
 pub word_turned : (bytes : List ℕ) (at : ℕ) → ((i : ℕ) → get_or bytes i 0 < 256) → low_first (bytes_of (low_first (four_at bytes at) + low_first (four_at bytes (at + 4)) * 2 ^ 32)) ≡ word_at bytes at
-word_turned bytes at is_byte_lem =
+word_turned bytes at each_byte =
     loaded_turned (get_or bytes at 0) (get_or bytes (at + 1) 0) (get_or bytes (at + 2) 0) (get_or bytes (at + 3) 0) (get_or bytes (at + 4) 0) (get_or bytes (at + 4 + 1) 0) (get_or bytes (at + 4 + 2) 0) (get_or bytes (at + 4 + 3) 0)
-    (is_byte_lem at, (is_byte_lem (at + 1), (is_byte_lem (at + 2), (is_byte_lem (at + 3), (is_byte_lem (at + 4), (is_byte_lem (at + 4 + 1), (is_byte_lem (at + 4 + 2), (is_byte_lem (at + 4 + 3), tt))))))))
+    (each_byte at, (each_byte (at + 1), (each_byte (at + 2), (each_byte (at + 3), (each_byte (at + 4), (each_byte (at + 4 + 1), (each_byte (at + 4 + 2), (each_byte (at + 4 + 3), tt))))))))
 
 -- ---- stored
 

@@ -1,6 +1,7 @@
--- The same of the three functions over lent structs, said of their clauses as assertions of the program logic, in every model of it:
--- who holds them of two ends of a call holds that the results are equal, and what lies in lent memory at exit too. Each clause is the
--- fact of an equation, and the clauses are joined by ∗: who holds them knows the equations, and both ends equal what they name.
+-- The answers of the three functions over lent structs are pinned down, said of their clauses as assertions of the program logic, in
+-- every model of it: who holds them of two ends of a call holds that the results are equal, and what lies in lent memory at exit too.
+-- Each clause is the fact of an equation, and the clauses are joined by ∗: who holds them knows the equations, and both ends equal
+-- what they name.
 -- Assumes nothing.
 use Rattle.std.proofs.Common.{◌≡◌, sym, ◌∙◌}
 use seplogic.Ra.Ura.{Ura}

@@ -1,5 +1,5 @@
--- The same of what a caller learns of a call, in place of the fact that is read off the clauses: the two are one, so that each line
--- here is the line of `OneAnswer`.
+-- Every answer is pinned down, said of what a caller learns of a call and not of the fact that is read off the clauses. The two are
+-- one, so each line here is that of `OneAnswer`.
 -- Assumes nothing.
 use Rattle.std.proofs.Common.{ℕ, List, ◌≡◌}
 use contract.Lifetimes.{Lfts}
