@@ -2,6 +2,7 @@
 -- write of the register itself, and a read gives what the state holds. Its gate asks what no write moves, so a read is permitted
 -- where a write was.
 -- Assumes nothing.
+use Rattle.std.specs.Prelude.{Ok}
 use Prim.Native.Nat.{ℕ}
 use mathlib.Core.Bool.{Bool}
 use mathlib.Core.Logic.{⊎_elim}
@@ -11,7 +12,6 @@ use Rattle.rules.specs.declared.name.Name.{Name}
 use Rattle.rules.specs.declared.state.State.{State}
 use Rattle.rules.specs.declared.verdict.Target.{Target}
 use Rattle.rules.specs.declared.verdict.Target.TheVariants.{Cntpct, Cntvct, Cntvoff, Timer, Cntkctl, Cnthctl, Cntpoff}
-use Rattle.rules.specs.declared.verdict.Verdict.TheVariants.{Reaches}
 use Rattle.rules.specs.Words.{facts_of}
 use Rattle.rules.specs.Names.{is_mrs, written_operand}
 use Rattle.rules.specs.Control.{cntkctl, cnthctl, cntpoff}
@@ -149,7 +149,7 @@ readable : ReadableAfterwards
 readable s w r name register is n m level write =
     let next : State = (access_of s w).next in
     let named : write.permitted.name ≡ name = cc in
-    let verdict : verdict_of (facts_of s w.level) name (is_mrs w.word) ≡ Reaches register = rw named at write.permitted.verdict in
+    let verdict : verdict_of (facts_of s w.level) name (is_mrs w.word) ≡ Ok register = rw named at write.permitted.verdict in
     let same : SameGates (facts_of next w.level) (facts_of s w.level) = subst (λ (x : State). SameGates (facts_of x w.level) (facts_of s w.level)) (sym (writes_change_one s w register write).next) (gates_stand _ s _ register _ w.level) in
     record {
       name = name;

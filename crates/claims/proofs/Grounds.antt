@@ -1,6 +1,7 @@
 -- 5 exactly on its grounds: the rulebook's test is a chain of 'or', so it is true exactly if one of its parts is, and each part
 -- is one ground. No other way of an access ends in 5.
 -- Assumes nothing.
+use Rattle.std.specs.Prelude.{Err, None, Ok, Option, Some}
 use Prim.Native.Nat.{ℕ, ◌*◌, ◌/◌, ◌%◌, ◌^◌, ◌<◌, ◌≤◌}
 use mathlib.Core.Bool.{Bool, true, false, not, ◌&&◌, ◌||◌, and-eq-true_iff, or-true, or_assoc}
 use mathlib.Core.Logic.{◌⊎◌, inl, inr, ⊎_elim}
@@ -10,12 +11,10 @@ use native.Mathlib.Omega.{arith}
 use lib.Dec.{T, eqb, ltb}
 use borrow.Author.Tests.{ltb-true, ltb-false, lt-ltb, eqb-true, eqb-false, eq-eqb, not-true}
 use Rattle.rules.specs.declared.access.Access.{Access}
-use Rattle.rules.specs.declared.name.Lookup.{Lookup}
-use Rattle.rules.specs.declared.name.Lookup.TheVariants.{Named, NotNamed}
 use Rattle.rules.specs.declared.name.Name.{Name}
 use Rattle.rules.specs.declared.state.State.{State}
-use Rattle.rules.specs.declared.verdict.Verdict.{Verdict}
-use Rattle.rules.specs.declared.verdict.Verdict.TheVariants.{Undefined, ToEl1, ToEl2, ToEl3, Reaches}
+use Rattle.rules.specs.Rules.{Verdict}
+use Rattle.rules.specs.declared.verdict.Stop.TheVariants.{Undefined, ToEl1, ToEl2, ToEl3}
 use Rattle.rules.specs.Bits.{bits, bit}
 use Rattle.rules.specs.Words.{EL1, EL2, EL3, on, facts_of}
 use Rattle.rules.specs.Names.{name_of, is_mrs}
@@ -206,30 +205,30 @@ module _ (s : State) (level : ℕ) where
 -- ---- 5, and nothing else ends in it
 
 module _ (s : State) (a : Access) where
-  refused_by : (name : Name) → name_of a.word ≡ Named name → GroundAt s a.level → (access_of s a).answer.number ≡ 5
+  refused_by : (name : Name) → name_of a.word ≡ Some name → GroundAt s a.level → (access_of s a).answer.number ≡ 5
   unfolding access_of served
   refused_by name n g = rw (n, impossible_at_of s a.level g)
 
   by_verdict : (v : Verdict) → (ruled (facts_of s a.level) s a v).answer.number ≡ 5 → ⊥
   unfolding ruled
-  by_verdict Undefined e = omega arith
-  by_verdict ToEl1 e = omega arith
-  by_verdict ToEl2 e = omega arith
-  by_verdict ToEl3 e = omega arith
-  by_verdict (Reaches target) e =
+  by_verdict (Err Undefined) e = omega arith
+  by_verdict (Err ToEl1) e = omega arith
+  by_verdict (Err ToEl2) e = omega arith
+  by_verdict (Err ToEl3) e = omega arith
+  by_verdict (Ok target) e =
       let done : (permitted (facts_of s a.level) s a target).answer.number ≡ 0 = permitted_is_done (facts_of s a.level) s a target in
       omega arith
 
-  by_context : (name : Name) (b : Bool) → impossible_at s a.level ≡ b → (served s a (Named name)).answer.number ≡ 5 → GroundAt s a.level
+  by_context : (name : Name) (b : Bool) → impossible_at s a.level ≡ b → (served s a (Some name)).answer.number ≡ 5 → GroundAt s a.level
   unfolding served
   by_context name true i e = of_impossible_at s a.level i
   by_context name false i e =
       absurd (by_verdict (verdict_of (facts_of s a.level) name (is_mrs a.word)) (rw i at e))
 
-  by_name : (l : Lookup) → (served s a l).answer.number ≡ 5 → GroundAt s a.level
+  by_name : (l : Option Name) → (served s a l).answer.number ≡ 5 → GroundAt s a.level
   unfolding served
-  by_name NotNamed e = absurd (omega arith)
-  by_name (Named name) e = by_context name (impossible_at s a.level) refl e
+  by_name None e = absurd (omega arith)
+  by_name (Some name) e = by_context name (impossible_at s a.level) refl e
 
   reason_of : (access_of s a).answer.number ≡ 5 → GroundAt s a.level
   unfolding access_of

@@ -1,6 +1,7 @@
 -- What the gates tell the guest of demand 3: they stop it, answer Undefined, or let it reach CNTVCT, its own virtual timer
 -- or CNTKCTL. Of CNTP and CNTPCT it meets (b) or (c) at EL0 and the EL1 rule at EL1; EL2's own timers need host.
 -- Assumes nothing.
+use Rattle.std.specs.Prelude.{Err, Ok}
 use Prim.Native.Nat.{ℕ}
 use mathlib.Core.Bool.{Bool, true, false, cond, not, ◌&&◌, and-eq-true_iff}
 use mathlib.Core.List.{[], ◌∷◌}
@@ -14,10 +15,9 @@ use Rattle.rules.specs.declared.name.Part.{Part}
 use Rattle.rules.specs.declared.state.State.{State}
 use Rattle.rules.specs.declared.state.TimerName.{TimerName}
 use Rattle.rules.specs.declared.verdict.Target.{Target}
-use Rattle.rules.specs.declared.verdict.Verdict.{Verdict}
-use Rattle.rules.specs.declared.verdict.Verdict.TheVariants.{Undefined, ToEl1, ToEl2, ToEl3, Reaches}
+use Rattle.rules.specs.declared.verdict.Stop.TheVariants.{Undefined, ToEl1, ToEl2, ToEl3}
 use Rattle.rules.specs.Words.{EL0, EL1, on, cnthctl, facts_of}
-use Rattle.rules.specs.Rules.{◌⇒◌, first, timer}
+use Rattle.rules.specs.Rules.{Verdict, ◌⇒◌, first, timer}
 use Rattle.rules.specs.Cntp.{denied, a_to_d, el1_rule, cntp}
 use Rattle.rules.specs.Cntv.{a_to_c, cntv}
 use Rattle.rules.specs.Counters.{cntpct, cntvct, self_synchronized}
@@ -37,17 +37,17 @@ Own TimerName.Cnthvs = ⊥
 
 -- a verdict that lets it reach CNTVCT, CNTV or CNTKCTL, or nothing
 abbrev pub OwnOnly : Verdict → Type 0
-OwnOnly Undefined = Unit {0}
-OwnOnly ToEl1 = Unit {0}
-OwnOnly ToEl2 = Unit {0}
-OwnOnly ToEl3 = Unit {0}
-OwnOnly (Reaches Target.Cntpct) = ⊥
-OwnOnly (Reaches Target.Cntvct) = Unit {0}
-OwnOnly (Reaches Target.Cntvoff) = ⊥
-OwnOnly (Reaches (Target.Timer t p)) = Own t
-OwnOnly (Reaches Target.Cntkctl) = Unit {0}
-OwnOnly (Reaches Target.Cnthctl) = ⊥
-OwnOnly (Reaches Target.Cntpoff) = ⊥
+OwnOnly (Err Undefined) = Unit {0}
+OwnOnly (Err ToEl1) = Unit {0}
+OwnOnly (Err ToEl2) = Unit {0}
+OwnOnly (Err ToEl3) = Unit {0}
+OwnOnly (Ok Target.Cntpct) = ⊥
+OwnOnly (Ok Target.Cntvct) = Unit {0}
+OwnOnly (Ok Target.Cntvoff) = ⊥
+OwnOnly (Ok (Target.Timer t p)) = Own t
+OwnOnly (Ok Target.Cntkctl) = Unit {0}
+OwnOnly (Ok Target.Cnthctl) = ⊥
+OwnOnly (Ok Target.Cntpoff) = ⊥
 
 -- the facts of such a guest
 pub record GuestFacts (f : Facts) : Type 0 where
@@ -83,10 +83,10 @@ guest_facts s level low g =
     }
 
 denied_own : (f : Facts) → OwnOnly (denied f)
-denied_own f = cond_holds OwnOnly (f.on && f.tge) ToEl2 ToEl1 tt tt
+denied_own f = cond_holds OwnOnly (f.on && f.tge) (Err ToEl2) (Err ToEl1) tt tt
 
-undefined_or : (b : Bool) (w : Verdict) → OwnOnly w → OwnOnly (first (b ⇒ Undefined ∷ []) w)
-undefined_or b w = first_holds OwnOnly (b ⇒ Undefined ∷ []) w (tt, tt)
+undefined_or : (b : Bool) (w : Verdict) → OwnOnly w → OwnOnly (first (b ⇒ Err Undefined ∷ []) w)
+undefined_or b w = first_holds OwnOnly (b ⇒ Err Undefined ∷ []) w (tt, tt)
 
 module _ (f : Facts) (g : GuestFacts f) where
   -- CNTP's (b) or (c) stops it at EL0, whatever the other bits, and the EL1 rule at EL1
@@ -119,15 +119,15 @@ module _ (f : Facts) (g : GuestFacts f) where
   cntv_own p =
       ⊎_elim
       (λ l. rw l (first_holds OwnOnly (a_to_c f f.cntkctl.el0vten f.cnthctl.el0vten f.cnthctl.el1tvt) _ (denied_own f, (tt, (tt, tt))) (rw g.not_host tt)))
-      (λ l. rw l (first_holds OwnOnly ((f.on && f.ecv && f.cnthctl.el1tvt) ⇒ ToEl2 ∷ []) (timer TimerName.Cntv p) (tt, tt) tt))
+      (λ l. rw l (first_holds OwnOnly ((f.on && f.ecv && f.cnthctl.el1tvt) ⇒ Err ToEl2 ∷ []) (timer TimerName.Cntv p) (tt, tt) tt))
       g.low
 
   cntvct_own : OwnOnly (cntvct f)
   unfolding cntvct
   cntvct_own =
       ⊎_elim
-      (λ l. rw l (first_holds OwnOnly (a_to_c f f.cntkctl.el0vcten f.cnthctl.el0vcten f.cnthctl.el1tvct) (Reaches Target.Cntvct) (denied_own f, (tt, (tt, tt))) tt))
-      (λ l. rw l (first_holds OwnOnly ((f.on && f.cnthctl.el1tvct) ⇒ ToEl2 ∷ []) (Reaches Target.Cntvct) (tt, tt) tt))
+      (λ l. rw l (first_holds OwnOnly (a_to_c f f.cntkctl.el0vcten f.cnthctl.el0vcten f.cnthctl.el1tvct) (Ok Target.Cntvct) (denied_own f, (tt, (tt, tt))) tt))
+      (λ l. rw l (first_holds OwnOnly ((f.on && f.cnthctl.el1tvct) ⇒ Err ToEl2 ∷ []) (Ok Target.Cntvct) (tt, tt) tt))
       g.low
 
   cntvoff_own : OwnOnly (cntvoff f)

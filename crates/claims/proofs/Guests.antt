@@ -2,6 +2,7 @@
 -- part and the virtual count. Two machines that are alike in these answer alike, and only that part moves; so they are alike
 -- again after it, and the same holds of any sequence.
 -- Assumes nothing.
+use Rattle.std.specs.Prelude.{Err, None, Ok, Option, Some}
 use Prim.Native.Nat.{ℕ}
 use mathlib.Core.Bool.{Bool, true, false, cond, ◌&&◌, ◌||◌}
 use lib.Dec.{eqb}
@@ -12,8 +13,6 @@ use Rattle.rules.specs.declared.access.Access.{Access}
 use Rattle.rules.specs.declared.answer.Answer.{Answer}
 use Rattle.rules.specs.declared.answer.Outcome.{Outcome}
 use Rattle.rules.specs.declared.facts.Facts.{Facts}
-use Rattle.rules.specs.declared.name.Lookup.{Lookup}
-use Rattle.rules.specs.declared.name.Lookup.TheVariants.{Named, NotNamed}
 use Rattle.rules.specs.declared.name.Name.{Name}
 use Rattle.rules.specs.declared.name.Part.{Part}
 use Rattle.rules.specs.declared.state.Controls.{Controls}
@@ -23,8 +22,8 @@ use Rattle.rules.specs.declared.state.Timer.{Timer}
 use Rattle.rules.specs.declared.state.TimerName.{TimerName}
 use Rattle.rules.specs.declared.state.TimerName.TheVariants.{Cntv}
 use Rattle.rules.specs.declared.verdict.Target.{Target}
-use Rattle.rules.specs.declared.verdict.Verdict.{Verdict}
-use Rattle.rules.specs.declared.verdict.Verdict.TheVariants.{Undefined, ToEl1, ToEl2, ToEl3, Reaches}
+use Rattle.rules.specs.Rules.{Verdict}
+use Rattle.rules.specs.declared.verdict.Stop.TheVariants.{Undefined, ToEl1, ToEl2, ToEl3}
 use Rattle.rules.specs.Words.{EL0, EL1, EL2, physical_trapped, facts_of}
 use Rattle.rules.specs.Names.{name_of, is_mrs, written_operand}
 use Rattle.rules.specs.Verdicts.{verdict_of}
@@ -62,25 +61,25 @@ with_its_cntkctl mine x = record { cntv = mine.cntv; cntkctl = x }
 
 -- by a verdict that lets it reach its own alone, of an access as the guest sees it; the other cases are no such verdict's
 abbrev seen_by : Facts → Access → Own → Verdict → Seen
-seen_by f x mine Undefined = seen (undefined_at x.word) mine
-seen_by f x mine ToEl1 = seen (trapped trap_to_el1 x.word) mine
-seen_by f x mine ToEl2 = seen (trapped trap_to_el2 x.word) mine
-seen_by f x mine ToEl3 = seen (trapped trap_to_el3 x.word) mine
-seen_by f x mine (Reaches Target.Cntpct) = seen (refused not_a_timer_access) mine
-seen_by f x mine (Reaches Target.Cntvct) = seen (done_either x.word (done_read x.word (known x.count))) mine
-seen_by f x mine (Reaches Target.Cntvoff) = seen (refused not_a_timer_access) mine
-seen_by f x mine (Reaches (Target.Timer t p)) =
+seen_by f x mine (Err Undefined) = seen (undefined_at x.word) mine
+seen_by f x mine (Err ToEl1) = seen (trapped trap_to_el1 x.word) mine
+seen_by f x mine (Err ToEl2) = seen (trapped trap_to_el2 x.word) mine
+seen_by f x mine (Err ToEl3) = seen (trapped trap_to_el3 x.word) mine
+seen_by f x mine (Ok Target.Cntpct) = seen (refused not_a_timer_access) mine
+seen_by f x mine (Ok Target.Cntvct) = seen (done_either x.word (done_read x.word (known x.count))) mine
+seen_by f x mine (Ok Target.Cntvoff) = seen (refused not_a_timer_access) mine
+seen_by f x mine (Ok (Target.Timer t p)) =
     seen (done_either x.word (done_read x.word (read_timer mine.cntv p x.count x.count)))
     (cond (is_mrs x.word) mine (with_cntv mine (write_timer mine.cntv p x.count (written_operand x))))
-seen_by f x mine (Reaches Target.Cntkctl) =
+seen_by f x mine (Ok Target.Cntkctl) =
     seen (done_either x.word (done_read x.word (known mine.cntkctl)))
     (cond (is_mrs x.word) mine (with_its_cntkctl mine (stored_cntkctl f.ecv (written_operand x))))
-seen_by f x mine (Reaches Target.Cnthctl) = seen (refused not_a_timer_access) mine
-seen_by f x mine (Reaches Target.Cntpoff) = seen (refused not_a_timer_access) mine
+seen_by f x mine (Ok Target.Cnthctl) = seen (refused not_a_timer_access) mine
+seen_by f x mine (Ok Target.Cntpoff) = seen (refused not_a_timer_access) mine
 
-abbrev seen_of : Facts → Bool → Access → Own → Lookup → Seen
-seen_of f is_impossible x mine NotNamed = seen (refused not_a_timer_access) mine
-seen_of f is_impossible x mine (Named name) =
+abbrev seen_of : Facts → Bool → Access → Own → Option Name → Seen
+seen_of f is_impossible x mine None = seen (refused not_a_timer_access) mine
+seen_of f is_impossible x mine (Some name) =
     cond is_impossible (seen (refused impossible_context) mine) (seen_by f x mine (verdict_of f name (is_mrs x.word)))
 
 -- on a state, that answer and the state with that part put in
@@ -98,46 +97,46 @@ virtual_alone : (f : Facts) (s : State) (count : ℕ) → GuestFacts f → virtu
 virtual_alone f s count g = rw (no_host_no_el2 f g)
 
 module _ (f : Facts) (g : GuestFacts f) (s : State) (a : Access) where
-  reached_cntvct : (b : Bool) → is_mrs a.word ≡ b → permitted f s a Target.Cntvct ≡ on s (seen_by f (as_seen s a) (own s) (Reaches Target.Cntvct))
+  reached_cntvct : (b : Bool) → is_mrs a.word ≡ b → permitted f s a Target.Cntvct ≡ on s (seen_by f (as_seen s a) (own s) (Ok Target.Cntvct))
   unfolding permitted read_of write_of
   reached_cntvct true e = rw (e, virtual_alone f s a.count g)
   reached_cntvct false e = rw e
 
-  reached_cntv : (p : Part) (b : Bool) → is_mrs a.word ≡ b → permitted f s a (Target.Timer Cntv p) ≡ on s (seen_by f (as_seen s a) (own s) (Reaches (Target.Timer Cntv p)))
+  reached_cntv : (p : Part) (b : Bool) → is_mrs a.word ≡ b → permitted f s a (Target.Timer Cntv p) ≡ on s (seen_by f (as_seen s a) (own s) (Ok (Target.Timer Cntv p)))
   unfolding permitted read_of write_of count_of
   reached_cntv p true e = rw e
   reached_cntv p false e = rw e
 
-  reached_cntkctl : (b : Bool) → is_mrs a.word ≡ b → permitted f s a Target.Cntkctl ≡ on s (seen_by f (as_seen s a) (own s) (Reaches Target.Cntkctl))
+  reached_cntkctl : (b : Bool) → is_mrs a.word ≡ b → permitted f s a Target.Cntkctl ≡ on s (seen_by f (as_seen s a) (own s) (Ok Target.Cntkctl))
   unfolding permitted read_of write_of
   reached_cntkctl true e = rw e
   reached_cntkctl false e = rw e
 
   ruled_factors : (v : Verdict) → OwnOnly v → ruled f s a v ≡ on s (seen_by f (as_seen s a) (own s) v)
   unfolding ruled
-  ruled_factors Undefined mine = refl
-  ruled_factors ToEl1 mine = refl
-  ruled_factors ToEl2 mine = refl
-  ruled_factors ToEl3 mine = refl
-  ruled_factors (Reaches Target.Cntpct) mine = absurd mine
-  ruled_factors (Reaches Target.Cntvct) mine = reached_cntvct (is_mrs a.word) refl
-  ruled_factors (Reaches Target.Cntvoff) mine = absurd mine
-  ruled_factors (Reaches (Target.Timer TimerName.Cntp p)) mine = absurd mine
-  ruled_factors (Reaches (Target.Timer TimerName.Cntv p)) mine = reached_cntv p (is_mrs a.word) refl
-  ruled_factors (Reaches (Target.Timer TimerName.Cnthp p)) mine = absurd mine
-  ruled_factors (Reaches (Target.Timer TimerName.Cnthv p)) mine = absurd mine
-  ruled_factors (Reaches (Target.Timer TimerName.Cnthps p)) mine = absurd mine
-  ruled_factors (Reaches (Target.Timer TimerName.Cnthvs p)) mine = absurd mine
-  ruled_factors (Reaches Target.Cntkctl) mine = reached_cntkctl (is_mrs a.word) refl
-  ruled_factors (Reaches Target.Cnthctl) mine = absurd mine
-  ruled_factors (Reaches Target.Cntpoff) mine = absurd mine
+  ruled_factors (Err Undefined) mine = refl
+  ruled_factors (Err ToEl1) mine = refl
+  ruled_factors (Err ToEl2) mine = refl
+  ruled_factors (Err ToEl3) mine = refl
+  ruled_factors (Ok Target.Cntpct) mine = absurd mine
+  ruled_factors (Ok Target.Cntvct) mine = reached_cntvct (is_mrs a.word) refl
+  ruled_factors (Ok Target.Cntvoff) mine = absurd mine
+  ruled_factors (Ok (Target.Timer TimerName.Cntp p)) mine = absurd mine
+  ruled_factors (Ok (Target.Timer TimerName.Cntv p)) mine = reached_cntv p (is_mrs a.word) refl
+  ruled_factors (Ok (Target.Timer TimerName.Cnthp p)) mine = absurd mine
+  ruled_factors (Ok (Target.Timer TimerName.Cnthv p)) mine = absurd mine
+  ruled_factors (Ok (Target.Timer TimerName.Cnthps p)) mine = absurd mine
+  ruled_factors (Ok (Target.Timer TimerName.Cnthvs p)) mine = absurd mine
+  ruled_factors (Ok Target.Cntkctl) mine = reached_cntkctl (is_mrs a.word) refl
+  ruled_factors (Ok Target.Cnthctl) mine = absurd mine
+  ruled_factors (Ok Target.Cntpoff) mine = absurd mine
 
 -- what the guest gets for an access as it sees it
 abbrev seen_for : State → Access → Seen
 seen_for s x = seen_of (facts_of s x.level) (impossible_at s x.level) x (own s) (name_of x.word)
 
 module _ (s : State) (g : TrappedGuest s) (a : Access) (low : (a.level ≡ EL0) ⊎ (a.level ≡ EL1)) where
-  by_context : (name : Name) (b : Bool) → impossible_at s a.level ≡ b → served s a (Named name) ≡ on s (seen_of (facts_of s a.level) b (as_seen s a) (own s) (Named name))
+  by_context : (name : Name) (b : Bool) → impossible_at s a.level ≡ b → served s a (Some name) ≡ on s (seen_of (facts_of s a.level) b (as_seen s a) (own s) (Some name))
   unfolding served
   by_context name true e = rw e
   by_context name false e =
@@ -145,10 +144,10 @@ module _ (s : State) (g : TrappedGuest s) (a : Access) (low : (a.level ≡ EL0) 
       let facts : GuestFacts f = guest_facts s a.level low g in
       rw e (ruled_factors f facts s a (verdict_of f name (is_mrs a.word)) (own_only f facts name (is_mrs a.word)))
 
-  by_name : (l : Lookup) → served s a l ≡ on s (seen_of (facts_of s a.level) (impossible_at s a.level) (as_seen s a) (own s) l)
+  by_name : (l : Option Name) → served s a l ≡ on s (seen_of (facts_of s a.level) (impossible_at s a.level) (as_seen s a) (own s) l)
   unfolding served
-  by_name NotNamed = refl
-  by_name (Named name) = by_context name (impossible_at s a.level) refl
+  by_name None = refl
+  by_name (Some name) = by_context name (impossible_at s a.level) refl
 
   factors : access_of s a ≡ on s (seen_for s (as_seen s a))
   unfolding access_of
@@ -274,7 +273,7 @@ others_stand old new e =
     })
 
 module _ (s : State) (a : Access) (g : TrappedGuest s) (low : (a.level ≡ EL0) ⊎ (a.level ≡ EL1)) where
-  reaches_its_own : (target : Target) → Permitted s a target → OwnOnly (Reaches target)
+  reaches_its_own : (target : Target) → Permitted s a target → OwnOnly (Ok target)
   reaches_its_own target p =
       subst OwnOnly p.verdict (own_only (facts_of s a.level) (guest_facts s a.level low g) p.name (is_mrs a.word))
 

@@ -1,5 +1,6 @@
 -- The example of a lease: the checker computes that each write is permitted and what it reaches, and the claim says the rest.
 -- Assumes nothing.
+use Rattle.std.specs.Prelude.{Ok, Some}
 use mathlib.Core.Bool.{true}
 use mathlib.Core.List.{[], ◌∷◌}
 use mathlib.Core.Logic.{inl}
@@ -7,13 +8,11 @@ use mathlib.Core.Path.{◌≡◌, refl, sym, subst, ◌∙◌}
 use lib.Dec.{T}
 use native.Mathlib.Omega.{arith}
 use Rattle.rules.specs.declared.access.Access.{Access}
-use Rattle.rules.specs.declared.name.Lookup.{Lookup}
 use Rattle.rules.specs.declared.name.Name.{Name}
 use Rattle.rules.specs.declared.name.Part.TheVariants.{Tval, Ctl, Cval}
 use Rattle.rules.specs.declared.state.State.{State}
 use Rattle.rules.specs.declared.state.TimerName.TheVariants.{Cnthp}
 use Rattle.rules.specs.declared.verdict.Target.{Target}
-use Rattle.rules.specs.declared.verdict.Verdict.{Verdict}
 use Rattle.rules.specs.Words.{facts_of}
 use Rattle.rules.specs.Names.{name_of, name_table, is_mrs, written_operand}
 use Rattle.rules.specs.Cntv.{cntv}
@@ -35,7 +34,7 @@ reads_reach_nothing : (s : State) (a : Access) → is_mrs a.word ≡ true → (t
 reads_reach_nothing s a mrs target of w = subst T (sym mrs ∙ w.write) tt
 
 -- a write that the rules send elsewhere does not reach the lease: a word has one name, and a name one verdict
-others_reach_nothing : (s : State) (a : Access) (name : Name) (elsewhere : Target) → name_of a.word ≡ Lookup.Named name → verdict_of (facts_of s a.level) name (is_mrs a.word) ≡ Verdict.Reaches elsewhere → (OfTheLease elsewhere → ⊥) → (target : Target) → OfTheLease target → PermittedWrite s a target → ⊥
+others_reach_nothing : (s : State) (a : Access) (name : Name) (elsewhere : Target) → name_of a.word ≡ Some name → verdict_of (facts_of s a.level) name (is_mrs a.word) ≡ Ok elsewhere → (OfTheLease elsewhere → ⊥) → (target : Target) → OfTheLease target → PermittedWrite s a target → ⊥
 others_reach_nothing s a name elsewhere n v not-it target of w =
     let named : w.permitted.name ≡ name = cc in
     let there : target ≡ elsewhere = cc in

@@ -1,6 +1,7 @@
 -- What goes with each number: an access is refused, stopped by a verdict, or permitted, and each of these ends in one of the
 -- constructors of an answer. The numbers of a run follow its two tests, which are arithmetic.
 -- Assumes nothing.
+use Rattle.std.specs.Prelude.{Err, None, Ok, Option, Some}
 use Prim.Native.Nat.{ℕ, ◌*◌, ◌/◌, ◌%◌, ◌<◌, ◌≤◌}
 use mathlib.Core.Bool.{Bool, true, false}
 use mathlib.Core.List.{List}
@@ -12,13 +13,11 @@ use lib.ListN.{length}
 use borrow.Author.Tests.{eq-eqb, ne_eqb, eqb-true, lt-ltb, le-ltb}
 use Rattle.rules.specs.declared.access.Access.{Access}
 use Rattle.rules.specs.declared.facts.Facts.{Facts}
-use Rattle.rules.specs.declared.name.Lookup.{Lookup}
-use Rattle.rules.specs.declared.name.Lookup.TheVariants.{Named, NotNamed}
 use Rattle.rules.specs.declared.name.Name.{Name}
 use Rattle.rules.specs.declared.state.State.{State}
 use Rattle.rules.specs.declared.verdict.Target.{Target}
-use Rattle.rules.specs.declared.verdict.Verdict.{Verdict}
-use Rattle.rules.specs.declared.verdict.Verdict.TheVariants.{Undefined, ToEl1, ToEl2, ToEl3, Reaches}
+use Rattle.rules.specs.Rules.{Verdict}
+use Rattle.rules.specs.declared.verdict.Stop.TheVariants.{Undefined, ToEl1, ToEl2, ToEl3}
 use Rattle.rules.specs.Words.{facts_of}
 use Rattle.rules.specs.Names.{name_of, is_mrs, rt_of}
 use Rattle.rules.specs.Verdicts.{verdict_of}
@@ -69,23 +68,23 @@ module _ (f : Facts) (s : State) (a : Access) where
 
   by_verdict : (v : Verdict) → AnswerFor a.word (ruled f s a v).answer
   unfolding ruled
-  by_verdict Undefined = stopped a.word 1 (inl (omega arith))
-  by_verdict ToEl1 = stopped a.word 2 (inl (omega arith))
-  by_verdict ToEl2 = stopped a.word 3 (inl (omega arith))
-  by_verdict ToEl3 = stopped a.word 10 (inr refl)
-  by_verdict (Reaches target) = done target (is_mrs a.word) refl
+  by_verdict (Err Undefined) = stopped a.word 1 (inl (omega arith))
+  by_verdict (Err ToEl1) = stopped a.word 2 (inl (omega arith))
+  by_verdict (Err ToEl2) = stopped a.word 3 (inl (omega arith))
+  by_verdict (Err ToEl3) = stopped a.word 10 (inr refl)
+  by_verdict (Ok target) = done target (is_mrs a.word) refl
 
 module _ (s : State) (a : Access) where
-  by_context : (name : Name) (b : Bool) → impossible_at s a.level ≡ b → AnswerFor a.word (served s a (Named name)).answer
+  by_context : (name : Name) (b : Bool) → impossible_at s a.level ≡ b → AnswerFor a.word (served s a (Some name)).answer
   unfolding served
   by_context name true e = rw e (refusal a.word 5 (omega arith) (omega arith))
   by_context name false e =
       rw e (by_verdict (facts_of s a.level) s a (verdict_of (facts_of s a.level) name (is_mrs a.word)))
 
-  by_name : (l : Lookup) → AnswerFor a.word (served s a l).answer
+  by_name : (l : Option Name) → AnswerFor a.word (served s a l).answer
   unfolding served
-  by_name NotNamed = refusal a.word 4 (omega arith) (omega arith)
-  by_name (Named name) = by_context name (impossible_at s a.level) refl
+  by_name None = refusal a.word 4 (omega arith) (omega arith)
+  by_name (Some name) = by_context name (impossible_at s a.level) refl
 
 pub each_answer : EachAnswer
 unfolding access_of

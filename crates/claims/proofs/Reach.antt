@@ -1,5 +1,6 @@
 -- Who reaches the control registers: at a level that is known the gates compute, cell by cell.
 -- Assumes nothing.
+use Rattle.std.specs.Prelude.{Err, Ok}
 use Prim.Native.Nat.{ℕ}
 use mathlib.Core.Bool.{Bool, true, false, cond, not}
 use mathlib.Core.Path.{◌≡◌, refl}
@@ -7,8 +8,8 @@ use Rattle.rules.specs.declared.access.Access.{Access}
 use Rattle.rules.specs.declared.name.Name.{Name}
 use Rattle.rules.specs.declared.state.State.{State}
 use Rattle.rules.specs.declared.verdict.Target.{Target}
-use Rattle.rules.specs.declared.verdict.Verdict.{Verdict}
-use Rattle.rules.specs.declared.verdict.Verdict.TheVariants.{Undefined, Reaches}
+use Rattle.rules.specs.Rules.{Verdict}
+use Rattle.rules.specs.declared.verdict.Stop.TheVariants.{Undefined}
 use Rattle.rules.specs.Words.{facts_of}
 use Rattle.rules.specs.Names.{is_mrs}
 use Rattle.rules.specs.Control.{cntkctl, cnthctl, cntpoff}
@@ -21,17 +22,17 @@ module _ {s : State} {a : Access} {register : Name} {at : ℕ} (asked : Asked s 
   abbrev Says : Verdict → Type 0
   Says v = verdict_of (facts_of s a.level) register (is_mrs a.word) ≡ v
 
-  undefined : Says Undefined → (access_of s a).answer.number ≡ 1
+  undefined : Says (Err Undefined) → (access_of s a).answer.number ≡ 1
   unfolding access_of served ruled
   undefined e = rw (asked.name, asked.possible, e)
 
-  reached : {target : Target} → Says (Reaches target) → Permitted s a target
+  reached : {target : Target} → Says (Ok target) → Permitted s a target
   reached e = record { name = register; named = asked.name; possible = asked.possible; verdict = e }
 
 -- with ECV or without
-either_way : (b : Bool) → cond (not b) Undefined Undefined ≡ Undefined
-either_way true = refl
-either_way false = refl
+either_way : (b : Bool) (v : Verdict) → cond (not b) v v ≡ v
+either_way true v = refl
+either_way false v = refl
 
 pub who_reaches_controls : WhoReachesControls
 unfolding facts_of verdict_of cntkctl cnthctl cntpoff
@@ -47,8 +48,8 @@ who_reaches_controls s a =
       cnthctl_el2 = λ k. reached k (rw k.level);
       cnthctl_el3 = λ k. reached k (rw k.level);
       cntpoff_without_ecv = λ level k e. undefined k (rw e);
-      cntpoff_el0 = λ k. undefined k (rw k.level (either_way s.features.ecv));
-      cntpoff_el1 = λ k. undefined k (rw k.level (either_way s.features.ecv));
+      cntpoff_el0 = λ k. undefined k (rw k.level (either_way s.features.ecv (Err Undefined)));
+      cntpoff_el1 = λ k. undefined k (rw k.level (either_way s.features.ecv (Err Undefined)));
       cntpoff_el2 = λ k e v. reached k (rw (k.level, e, v));
       cntpoff_el3 = λ k e. reached k (rw (k.level, e));
     }

@@ -1,6 +1,7 @@
 -- What a TVAL write took is read back. The count that the write added is the count that the read takes off, both wrapped at
 -- 64 bits; and taking 32 bits as signed does not touch the low 32.
 -- Assumes nothing.
+use Rattle.std.specs.Prelude.{Err, Ok}
 use Prim.Native.Nat.{ℕ, ◌^◌, ◌<◌}
 use mathlib.Core.Bool.{Bool, true, false, cond}
 use mathlib.Core.List.{◌∷◌}
@@ -15,8 +16,8 @@ use Rattle.rules.specs.declared.name.Part.TheVariants.{Tval, Ctl, Cval}
 use Rattle.rules.specs.declared.state.Timer.{Timer}
 use Rattle.rules.specs.declared.state.Timers.{Timers}
 use Rattle.rules.specs.declared.verdict.Target.{Target}
-use Rattle.rules.specs.declared.verdict.Verdict.{Verdict}
-use Rattle.rules.specs.declared.verdict.Verdict.TheVariants.{Undefined, ToEl1, ToEl2, ToEl3, Reaches}
+use Rattle.rules.specs.Rules.{Verdict}
+use Rattle.rules.specs.declared.verdict.Stop.TheVariants.{Undefined, ToEl1, ToEl2, ToEl3}
 use Rattle.rules.specs.Verdicts.{verdict_of}
 use Rattle.rules.specs.Words.{facts_of}
 use Rattle.rules.specs.Names.{is_mrs, written_operand}
@@ -183,11 +184,11 @@ enabled_afterwards s w control r t write-w write-control on read-r level count f
 
 -- a verdict reaches no register but the TVAL of some timer
 abbrev TvalAlone : Verdict → Type 0
-TvalAlone Undefined = Unit {0}
-TvalAlone ToEl1 = Unit {0}
-TvalAlone ToEl2 = Unit {0}
-TvalAlone ToEl3 = Unit {0}
-TvalAlone (Reaches target) = (t : TimerName) × (target ≡ Target.Timer t Tval)
+TvalAlone (Err Undefined) = Unit {0}
+TvalAlone (Err ToEl1) = Unit {0}
+TvalAlone (Err ToEl2) = Unit {0}
+TvalAlone (Err ToEl3) = Unit {0}
+TvalAlone (Ok target) = (t : TimerName) × (target ≡ Target.Timer t Tval)
 
 -- a law of TVAL registers is one for each family of timers that has a name
 tval_names : (P : Name → Type 0) → P (Name.Cntp Tval) → P (Name.Cntv Tval) → P (Name.Cnthp Tval) → P (Name.Cnthvs Tval) → (name : Name) → HasTval name → P name
@@ -227,9 +228,9 @@ pub read_follows_write : ReadFollowsWrite
 read_follows_write s later w r name target has n m level same p =
     let f : Facts = facts_of s w.level in
     let named : p.name ≡ name = cc in
-    let verdict : verdict_of f name (is_mrs w.word) ≡ Reaches target = rw named at p.verdict in
-    let alone : TvalAlone (Reaches target) = subst TvalAlone verdict (tval_alone f name has (is_mrs w.word)) in
+    let verdict : verdict_of f name (is_mrs w.word) ≡ Ok target = rw named at p.verdict in
+    let alone : TvalAlone (Ok target) = subst TvalAlone verdict (tval_alone f name has (is_mrs w.word)) in
     let t : TimerName = alone.0 in
-    let verdict-of-read : verdict_of f name (is_mrs r.word) ≡ Reaches (Target.Timer t Tval) = either_direction f name has (is_mrs r.word) (is_mrs w.word) ∙ verdict ∙ ap Reaches alone.1 in
+    let verdict-of-read : verdict_of f name (is_mrs r.word) ≡ Ok (Target.Timer t Tval) = either_direction f name has (is_mrs r.word) (is_mrs w.word) ∙ verdict ∙ ap Ok alone.1 in
     let then : Permitted s r (Target.Timer t Tval) = record { name = name; named = m; possible = rw level p.possible; verdict = rw level verdict-of-read } in
     (t, alone.1, subst (λ (x : State). Permitted x r (Target.Timer t Tval)) (sym same) (whatever_timers later.timers then))

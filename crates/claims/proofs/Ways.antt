@@ -2,6 +2,7 @@
 -- that the verdict names read or written. The order of the desk, 4, 5, then the verdict, is gone through once, here.
 -- What is permitted is a matter of features and controls: other timers do not change it.
 -- Assumes nothing.
+use Rattle.std.specs.Prelude.{Err, None, Ok, Option, Some}
 use mathlib.Core.Bool.{Bool, true, false, ◌||◌}
 use mathlib.Core.Logic.{◌⊎◌, inl, inr}
 use mathlib.Core.Path.{◌≡◌, refl}
@@ -9,14 +10,12 @@ use native.Mathlib.Omega.{arith}
 use lib.Dec.{ltb}
 use Rattle.rules.specs.declared.access.Access.{Access}
 use Rattle.rules.specs.declared.answer.Answer.{Answer}
-use Rattle.rules.specs.declared.name.Lookup.{Lookup}
-use Rattle.rules.specs.declared.name.Lookup.TheVariants.{Named, NotNamed}
 use Rattle.rules.specs.declared.name.Name.{Name}
 use Rattle.rules.specs.declared.state.State.{State}
 use Rattle.rules.specs.declared.state.Timers.{Timers}
 use Rattle.rules.specs.declared.verdict.Target.{Target}
-use Rattle.rules.specs.declared.verdict.Verdict.{Verdict}
-use Rattle.rules.specs.declared.verdict.Verdict.TheVariants.{Undefined, ToEl1, ToEl2, ToEl3, Reaches}
+use Rattle.rules.specs.Rules.{Verdict}
+use Rattle.rules.specs.declared.verdict.Stop.TheVariants.{Undefined, ToEl1, ToEl2, ToEl3}
 use Rattle.rules.specs.Words.{EL3, facts_of}
 use Rattle.rules.specs.Names.{name_of, is_mrs}
 use Rattle.rules.specs.Verdicts.{verdict_of}
@@ -34,24 +33,24 @@ module _ (s : State) (a : Access) where
   EndsPermitted =
       (target : Target) × Permitted s a target × (access_of s a ≡ permitted (facts_of s a.level) s a target)
 
-  by_verdict : (name : Name) → name_of a.word ≡ Named name → impossible_at s a.level ≡ false → (v : Verdict) → verdict_of (facts_of s a.level) name (is_mrs a.word) ≡ v → EndsAsBefore ⊎ EndsPermitted
+  by_verdict : (name : Name) → name_of a.word ≡ Some name → impossible_at s a.level ≡ false → (v : Verdict) → verdict_of (facts_of s a.level) name (is_mrs a.word) ≡ v → EndsAsBefore ⊎ EndsPermitted
   unfolding access_of served ruled
-  by_verdict name n i Undefined e = inl (undefined_at a.word, λ p. omega arith, rw (n, i, e))
-  by_verdict name n i ToEl1 e = inl (trapped trap_to_el1 a.word, λ p. omega arith, rw (n, i, e))
-  by_verdict name n i ToEl2 e = inl (trapped trap_to_el2 a.word, λ p. omega arith, rw (n, i, e))
-  by_verdict name n i ToEl3 e = inl (trapped trap_to_el3 a.word, λ p. omega arith, rw (n, i, e))
-  by_verdict name n i (Reaches target) e =
+  by_verdict name n i (Err Undefined) e = inl (undefined_at a.word, λ p. omega arith, rw (n, i, e))
+  by_verdict name n i (Err ToEl1) e = inl (trapped trap_to_el1 a.word, λ p. omega arith, rw (n, i, e))
+  by_verdict name n i (Err ToEl2) e = inl (trapped trap_to_el2 a.word, λ p. omega arith, rw (n, i, e))
+  by_verdict name n i (Err ToEl3) e = inl (trapped trap_to_el3 a.word, λ p. omega arith, rw (n, i, e))
+  by_verdict name n i (Ok target) e =
       inr (target, record { name = name; named = n; possible = i; verdict = e }, rw (n, i, e))
 
-  by_context : (name : Name) → name_of a.word ≡ Named name → (b : Bool) → impossible_at s a.level ≡ b → EndsAsBefore ⊎ EndsPermitted
+  by_context : (name : Name) → name_of a.word ≡ Some name → (b : Bool) → impossible_at s a.level ≡ b → EndsAsBefore ⊎ EndsPermitted
   unfolding access_of served
   by_context name n true i = inl (refused impossible_context, λ p. omega arith, rw (n, i))
   by_context name n false i = by_verdict name n i (verdict_of (facts_of s a.level) name (is_mrs a.word)) refl
 
-  by_name : (l : Lookup) → name_of a.word ≡ l → EndsAsBefore ⊎ EndsPermitted
+  by_name : (l : Option Name) → name_of a.word ≡ l → EndsAsBefore ⊎ EndsPermitted
   unfolding access_of served
-  by_name NotNamed n = inl (refused not_a_timer_access, λ p. omega arith, rw n)
-  by_name (Named name) n = by_context name n (impossible_at s a.level) refl
+  by_name None n = inl (refused not_a_timer_access, λ p. omega arith, rw n)
+  by_name (Some name) n = by_context name n (impossible_at s a.level) refl
 
   pub ways : EndsAsBefore ⊎ EndsPermitted
   ways = by_name (name_of a.word) refl

@@ -1,6 +1,7 @@
 -- A permitted write leaves what `write_of` says. That changes one register: for a timer, the others are as they were by the
 -- laws of put, and in it one part by computation.
 -- Assumes nothing.
+use Rattle.std.specs.Prelude.{Err, Ok}
 use Prim.Native.Nat.{ℕ}
 use mathlib.Core.Bool.{false}
 use mathlib.Core.Logic.{⊎_elim}
@@ -16,8 +17,8 @@ use Rattle.rules.specs.declared.state.State.{State}
 use Rattle.rules.specs.declared.state.Timer.{Timer}
 use Rattle.rules.specs.declared.state.TimerName.{TimerName}
 use Rattle.rules.specs.declared.verdict.Target.{Target}
-use Rattle.rules.specs.declared.verdict.Verdict.{Verdict}
-use Rattle.rules.specs.declared.verdict.Verdict.TheVariants.{Undefined, ToEl1, ToEl2, ToEl3, Reaches}
+use Rattle.rules.specs.Rules.{Verdict}
+use Rattle.rules.specs.declared.verdict.Stop.TheVariants.{Undefined, ToEl1, ToEl2, ToEl3}
 use Rattle.rules.specs.Words.{facts_of}
 use Rattle.rules.specs.Names.{written_operand}
 use Rattle.rules.specs.El2.{cntvoff}
@@ -37,22 +38,22 @@ use Rattle.claims.proofs.Ways.{ways, ends}
 -- ---- no write reaches a counter
 
 abbrev Writable : Verdict → Type 0
-Writable Undefined = Unit {0}
-Writable ToEl1 = Unit {0}
-Writable ToEl2 = Unit {0}
-Writable ToEl3 = Unit {0}
-Writable (Reaches Target.Cntpct) = ⊥
-Writable (Reaches Target.Cntvct) = ⊥
-Writable (Reaches Target.Cntvoff) = Unit {0}
-Writable (Reaches (Target.Timer t p)) = Unit {0}
-Writable (Reaches Target.Cntkctl) = Unit {0}
-Writable (Reaches Target.Cnthctl) = Unit {0}
-Writable (Reaches Target.Cntpoff) = Unit {0}
+Writable (Err Undefined) = Unit {0}
+Writable (Err ToEl1) = Unit {0}
+Writable (Err ToEl2) = Unit {0}
+Writable (Err ToEl3) = Unit {0}
+Writable (Ok Target.Cntpct) = ⊥
+Writable (Ok Target.Cntvct) = ⊥
+Writable (Ok Target.Cntvoff) = Unit {0}
+Writable (Ok (Target.Timer t p)) = Unit {0}
+Writable (Ok Target.Cntkctl) = Unit {0}
+Writable (Ok Target.Cnthctl) = Unit {0}
+Writable (Ok Target.Cntpoff) = Unit {0}
 
 cntvoff_writable : (f : Facts) → Writable (cntvoff f)
 unfolding cntvoff
 cntvoff_writable f =
-    at_level_holds Writable f.level Undefined Undefined (Reaches Target.Cntvoff) (Reaches Target.Cntvoff) tt tt tt tt
+    at_level_holds Writable f.level (Err Undefined) (Err Undefined) (Ok Target.Cntvoff) (Ok Target.Cntvoff) tt tt tt tt
 
 msr_writable : (f : Facts) (name : Name) → Writable (verdict_of f name false)
 unfolding verdict_of
@@ -69,7 +70,7 @@ msr_writable f Cntkctl = cntkctl_holds Writable tt tt tt f
 msr_writable f Cnthctl = cnthctl_holds Writable tt tt f
 msr_writable f Cntpoff = cntpoff_holds Writable tt tt tt f
 
-permitted_writable : {s : State} {a : Access} {target : Target} → PermittedWrite s a target → Writable (Reaches target)
+permitted_writable : {s : State} {a : Access} {target : Target} → PermittedWrite s a target → Writable (Ok target)
 permitted_writable {s} {a} {target} w =
     subst Writable (rw w.write at w.permitted.verdict) (msr_writable (facts_of s a.level) w.permitted.name)
 
@@ -81,7 +82,7 @@ one_part t Tval used x = refl
 one_part t Ctl used x = refl
 one_part t Cval used x = refl
 
-one_register : (f : Facts) (s : State) (count : ℕ) (target : Target) (x : ℕ) → Writable (Reaches target) → OneRegister target s (write_of f s count target x)
+one_register : (f : Facts) (s : State) (count : ℕ) (target : Target) (x : ℕ) → Writable (Ok target) → OneRegister target s (write_of f s count target x)
 unfolding write_of
 one_register f s count Target.Cntpct x w = w
 one_register f s count Target.Cntvct x w = w

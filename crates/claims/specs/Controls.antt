@@ -1,8 +1,7 @@
 -- Demand 2 of the control registers: what a write of CNTKCTL, CNTHCTL or CNTPOFF took reads back, cut to the stored bits, and
 -- written back stays.
-use Rattle.std.specs.Prelude.{ℕ, List, ◌∷◌, ◌⊎◌, ◌≡◌}
+use Rattle.std.specs.Prelude.{ℕ, List, ◌∷◌, ◌⊎◌, ◌≡◌, Some}
 use Rattle.rules.specs.declared.access.Access.{Access}
-use Rattle.rules.specs.declared.name.Lookup.{Lookup}
 use Rattle.rules.specs.declared.name.Name.{Name}
 use Rattle.rules.specs.declared.state.State.{State}
 use Rattle.rules.specs.declared.verdict.Target.{Target}
@@ -43,8 +42,8 @@ abbrev pub ReadableAfterwards : Type 0
 ReadableAfterwards =
     (s : State) (w r : Access) (name : Name) (register : Target) →
     IsControl name →
-    name_of w.word ≡ Lookup.Named name →
-    name_of r.word ≡ Lookup.Named name →
+    name_of w.word ≡ Some name →
+    name_of r.word ≡ Some name →
     r.level ≡ w.level →
     PermittedWrite s w register →
     Permitted (access_of s w).next r register

@@ -1,14 +1,12 @@
 -- What answers accesses, one or one after the other, and which of them are permitted. The claims are of `access_of`; the
 -- impostors are desks too.
-use Rattle.std.specs.Prelude.{true, false, List, [], ◌∷◌, ◌≡◌}
+use Rattle.std.specs.Prelude.{true, false, List, [], ◌∷◌, ◌≡◌, Ok, Some}
 use Rattle.rules.specs.declared.access.Access.{Access}
 use Rattle.rules.specs.declared.answer.Answer.{Answer}
 use Rattle.rules.specs.declared.answer.Outcome.{Outcome}
-use Rattle.rules.specs.declared.name.Lookup.{Lookup}
 use Rattle.rules.specs.declared.name.Name.{Name}
 use Rattle.rules.specs.declared.state.State.{State}
 use Rattle.rules.specs.declared.verdict.Target.{Target}
-use Rattle.rules.specs.declared.verdict.Verdict.{Verdict}
 use Rattle.rules.specs.Words.{facts_of}
 use Rattle.rules.specs.Names.{name_of, is_mrs}
 use Rattle.rules.specs.Verdicts.{verdict_of}
@@ -31,9 +29,9 @@ end_state desk s (a ∷ rest) = end_state desk (desk s a).next rest
 -- an access is permitted: its word has a name, its context is possible, and the verdict names the register that it reaches
 pub record Permitted (s : State) (a : Access) (target : Target) : Type 0 where
   pub name : Name
-  pub named : name_of a.word ≡ Lookup.Named name
+  pub named : name_of a.word ≡ Some name
   pub possible : impossible_at s a.level ≡ false
-  pub verdict : verdict_of (facts_of s a.level) name (is_mrs a.word) ≡ Verdict.Reaches target
+  pub verdict : verdict_of (facts_of s a.level) name (is_mrs a.word) ≡ Ok target
 
 -- a permitted write, and a permitted read, of the register that is reached
 pub record PermittedWrite (s : State) (a : Access) (target : Target) : Type 0 where

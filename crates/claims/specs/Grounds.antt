@@ -1,7 +1,6 @@
 -- RULES, 'When 5 holds', in plain words: each ground as a case, and nothing else.
-use Rattle.std.specs.Prelude.{ℕ, ◌<◌, true, false, ◌⊎◌, ◌≡◌}
+use Rattle.std.specs.Prelude.{ℕ, ◌<◌, true, false, ◌⊎◌, ◌≡◌, Some}
 use Rattle.rules.specs.declared.access.Access.{Access}
-use Rattle.rules.specs.declared.name.Lookup.{Lookup}
 use Rattle.rules.specs.declared.name.Name.{Name}
 use Rattle.rules.specs.declared.state.State.{State}
 use Rattle.rules.specs.Bits.{bits}
@@ -31,7 +30,7 @@ pub data GroundAt (s : State) (level : ℕ) : Type 0 where
 pub record FiveExactlyWhen : Type 0 where
   pub refused :
       (s : State) (a : Access) (name : Name) →
-      name_of a.word ≡ Lookup.Named name →
+      name_of a.word ≡ Some name →
       GroundAt s a.level →
       (access_of s a).answer.number ≡ 5
   pub reason :

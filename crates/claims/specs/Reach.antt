@@ -1,8 +1,7 @@
 -- Who reaches CNTKCTL, CNTHCTL and CNTPOFF, cell by cell in plain words and numbers: the table of RULES, 'CNTKCTL, CNTHCTL and
 -- CNTPOFF', said a second time, so that a cell that the rulebook has otherwise would show. The cell of 10 is in Ten.
-use Rattle.std.specs.Prelude.{ℕ, true, false, ◌≡◌}
+use Rattle.std.specs.Prelude.{ℕ, true, false, ◌≡◌, Some}
 use Rattle.rules.specs.declared.access.Access.{Access}
-use Rattle.rules.specs.declared.name.Lookup.{Lookup}
 use Rattle.rules.specs.declared.name.Name.{Name}
 use Rattle.rules.specs.declared.state.State.{State}
 use Rattle.rules.specs.declared.verdict.Target.{Target}
@@ -13,7 +12,7 @@ use Rattle.claims.specs.Desk.{Permitted}
 
 -- an MRS or MSR of a register at a level, in a context that can be
 pub record Asked (s : State) (a : Access) (register : Name) (at : ℕ) : Type 0 where
-  pub name : name_of a.word ≡ Lookup.Named register
+  pub name : name_of a.word ≡ Some register
   pub possible : impossible_at s a.level ≡ false
   pub level : a.level ≡ at
 

@@ -1,8 +1,7 @@
 -- Demand 2: a timer value that a write took is read back.
-use Rattle.std.specs.Prelude.{ℕ, ◌<◌, ◌^◌, true, List, [], ◌∷◌, ◌≡◌}
+use Rattle.std.specs.Prelude.{ℕ, ◌<◌, ◌^◌, true, List, [], ◌∷◌, ◌≡◌, Some}
 use Rattle.rules.specs.declared.access.Access.{Access}
 use Rattle.rules.specs.declared.answer.Value.{Value}
-use Rattle.rules.specs.declared.name.Lookup.{Lookup}
 use Rattle.rules.specs.declared.name.Name.{Name}
 use Rattle.rules.specs.declared.name.Name.TheVariants.{Cntpct, Cntvct, Cntpctss, Cntvctss, Cntp, Cntv, Cntvoff, Cnthp, Cnthvs, Cntkctl, Cnthctl, Cntpoff}
 use Rattle.rules.specs.declared.name.Part.{Part}
@@ -121,8 +120,8 @@ abbrev pub ReadFollowsWrite : Type 0
 ReadFollowsWrite =
     (s later : State) (w r : Access) (name : Name) (target : Target) →
     HasTval name →
-    name_of w.word ≡ Lookup.Named name →
-    name_of r.word ≡ Lookup.Named name →
+    name_of w.word ≡ Some name →
+    name_of r.word ≡ Some name →
     r.level ≡ w.level →
     SameContext s later →
     Permitted s w target →

@@ -1,5 +1,5 @@
 // One access, from word to answer and next state (RULES, 'What the desk answers').
-ghost use Rattle.std.specs.Prelude.{◌≡◌};
+ghost use Rattle.std.specs.Prelude.{◌≡◌, Some};
 ghost use Rattle.rules.specs.Names.{written_operand};
 ghost use Rattle.rules.specs.Access.{served, access_of};
 ghost use Rattle.rules.specs.Access as rule;
@@ -11,7 +11,7 @@ use crate::answers::{
 use crate::context::impossible_at;
 use gates::{facts, verdict};
 use registers::{Register, is_mrs, rt};
-use rules::{Access, Facts, Lookup, Name, Outcome, State, Target, Verdict};
+use rules::{Access, Facts, Name, Outcome, State, Stop, Target, Verdict};
 use timers::{read, write};
 
 // MSR with Rt 31 writes 0.
@@ -48,17 +48,17 @@ fn ruled(f: Facts, s: State, a: Access, verdict: Verdict) -> Outcome
 {
     let word = a.word;
     match verdict {
-        Verdict::Undefined => as_before(s, undefined(word)),
-        Verdict::ToEl1 => as_before(s, trapped(TRAP_TO_EL1, word)),
-        Verdict::ToEl2 => as_before(s, trapped(TRAP_TO_EL2, word)),
-        Verdict::ToEl3 => as_before(s, trapped(TRAP_TO_EL3, word)),
-        Verdict::Reaches(target) => permitted(f, s, a, target),
+        Err(Stop::Undefined) => as_before(s, undefined(word)),
+        Err(Stop::ToEl1) => as_before(s, trapped(TRAP_TO_EL1, word)),
+        Err(Stop::ToEl2) => as_before(s, trapped(TRAP_TO_EL2, word)),
+        Err(Stop::ToEl3) => as_before(s, trapped(TRAP_TO_EL3, word)),
+        Ok(target) => permitted(f, s, a, target),
     }
 }
 
 #[tactic(auto, unfolding(rules::specs::Access::served))]
 fn named(s: State, a: Access, name: Name) -> Outcome
-    ensures { result ≡ served s a (Lookup.Named name) }
+    ensures { result ≡ served s a (Some name) }
 {
     let word = a.word;
     let level = a.level;
@@ -77,7 +77,7 @@ pub fn access(s: State, a: Access) -> Outcome
 {
     let found = Register::named_by(a.word);
     match found {
-        Lookup::NotNamed => as_before(s, refused(NOT_A_TIMER_ACCESS)),
-        Lookup::Named(name) => named(s, a, name),
+        None => as_before(s, refused(NOT_A_TIMER_ACCESS)),
+        Some(name) => named(s, a, name),
     }
 }

@@ -6,8 +6,7 @@ use mathlib.Core.Bool.{Bool, true, false, cond}
 use mathlib.Core.Path.{◌≡◌, refl}
 use lib.Dec.{eqb}
 use borrow.Author.Tests.{ne_eqb}
-use Rattle.rules.specs.declared.verdict.Verdict.{Verdict}
-use Rattle.rules.specs.Rules.{at_level}
+use Rattle.rules.specs.Rules.{Verdict, at_level}
 
 either : (b : Bool) (v : Verdict) → cond b v v ≡ v
 either true v = refl

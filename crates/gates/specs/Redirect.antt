@@ -4,8 +4,7 @@ use Rattle.std.specs.Prelude.{Bool, not, ◌&&◌, [], ◌∷◌}
 use Rattle.rules.specs.declared.facts.Facts.{Facts}
 use Rattle.rules.specs.declared.name.Part.{Part}
 use Rattle.rules.specs.declared.state.TimerName.{TimerName}
-use Rattle.rules.specs.declared.verdict.Verdict.{Verdict}
-use Rattle.rules.specs.Rules.{◌⇒◌, first, timer}
+use Rattle.rules.specs.Rules.{Verdict, ◌⇒◌, first, timer}
 
 -- whether EL2's own is meant; the Secure one, the Non-secure one, and the one that is reached otherwise
 unfoldable pub redirected_of : Facts → Bool → TimerName → TimerName → TimerName → Part → Verdict

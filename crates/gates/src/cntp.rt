@@ -6,16 +6,16 @@ ghost use Rattle.rules.specs.Cntp as gate;
 ghost use Rattle.gates.specs.Redirect.{redirected_of};
 
 use crate::redirect::redirected;
-use rules::{Facts, Part, Target, TimerName, Verdict};
+use rules::{Facts, Part, Stop, Target, TimerName, Verdict};
 
 // The trap of rule (a).
 pub fn denied(f: Facts) -> Verdict
     ensures { result ≡ gate.denied f }
 {
     if f.on & f.tge {
-        Verdict::ToEl2
+        Err(Stop::ToEl2)
     } else {
-        Verdict::ToEl1
+        Err(Stop::ToEl1)
     }
 }
 
@@ -38,13 +38,13 @@ pub fn physical_at_el0(
         return denied(f);
     }
     if b {
-        return Verdict::ToEl2;
+        return Err(Stop::ToEl2);
     }
     if c {
-        return Verdict::ToEl2;
+        return Err(Stop::ToEl2);
     }
     if d {
-        return Verdict::ToEl2;
+        return Err(Stop::ToEl2);
     }
     otherwise
 }
@@ -57,13 +57,13 @@ pub fn physical_at_el1(f: Facts, el1pcen: bool, el1pten: bool, otherwise: Verdic
     let trapped_by_pten = f.on & !el1pten;
     if f.e2h {
         if trapped_by_pten {
-            Verdict::ToEl2
+            Err(Stop::ToEl2)
         } else {
             otherwise
         }
     } else {
         if trapped_by_pcen {
-            Verdict::ToEl2
+            Err(Stop::ToEl2)
         } else {
             otherwise
         }
@@ -102,7 +102,7 @@ fn cntp_at_el1(f: Facts, p: Part) -> Verdict
         f,
         h.el1pcen,
         h.el1pten,
-        Verdict::Reaches(Target::Timer(TimerName::Cntp, p)),
+        Ok(Target::Timer(TimerName::Cntp, p)),
     )
 }
 
@@ -115,6 +115,6 @@ pub fn cntp(f: Facts, p: Part) -> Verdict
         0 => cntp_at_el0(f, p),
         1 => cntp_at_el1(f, p),
         2 => physical_timer(f, f.e2h, p),
-        _ => Verdict::Reaches(Target::Timer(TimerName::Cntp, p)),
+        _ => Ok(Target::Timer(TimerName::Cntp, p)),
     }
 }

@@ -7,7 +7,7 @@ ghost use Rattle.gates.specs.Redirect.{redirected_of};
 
 use crate::cntp::denied;
 use crate::redirect::redirected;
-use rules::{Facts, Part, Target, TimerName, Verdict};
+use rules::{Facts, Part, Stop, Target, TimerName, Verdict};
 
 // EL0, rules (a) to (c), over the bits that they read; `otherwise` is for an access that none of them stops.
 pub fn virtual_at_el0(
@@ -26,10 +26,10 @@ pub fn virtual_at_el0(
         return denied(f);
     }
     if b {
-        return Verdict::ToEl2;
+        return Err(Stop::ToEl2);
     }
     if c {
-        return Verdict::ToEl2;
+        return Err(Stop::ToEl2);
     }
     otherwise
 }
@@ -63,9 +63,9 @@ fn cntv_at_el1(f: Facts, p: Part) -> Verdict
 {
     let h = f.cnthctl;
     if f.on & f.ecv & h.el1tvt {
-        return Verdict::ToEl2;
+        return Err(Stop::ToEl2);
     }
-    Verdict::Reaches(Target::Timer(TimerName::Cntv, p))
+    Ok(Target::Timer(TimerName::Cntv, p))
 }
 
 #[tactic(auto, unfolding(rules::specs::Cntv::cntv, crate::specs::Redirect::redirected_of))]
@@ -77,6 +77,6 @@ pub fn cntv(f: Facts, p: Part) -> Verdict
         0 => cntv_at_el0(f, p),
         1 => cntv_at_el1(f, p),
         2 => virtual_timer(f, f.e2h, p),
-        _ => Verdict::Reaches(Target::Timer(TimerName::Cntv, p)),
+        _ => Ok(Target::Timer(TimerName::Cntv, p)),
     }
 }

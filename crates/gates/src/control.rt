@@ -2,7 +2,7 @@
 ghost use Rattle.std.specs.Prelude.{◌≡◌};
 ghost use Rattle.rules.specs.Control as gate;
 
-use rules::{Facts, Target, Verdict};
+use rules::{Facts, Stop, Target, Verdict};
 
 // At EL2 with E2H 1 its name reaches CNTHCTL.
 #[tactic(auto, unfolding(rules::specs::Control::cntkctl))]
@@ -11,17 +11,11 @@ pub fn cntkctl(f: Facts) -> Verdict
 {
     let level = f.level;
     let e2h = f.e2h;
-    let itself = Verdict::Reaches(Target::Cntkctl);
+    let itself = Ok(Target::Cntkctl);
     match level {
-        0 => Verdict::Undefined,
+        0 => Err(Stop::Undefined),
         1 => itself,
-        2 => {
-            if e2h {
-                Verdict::Reaches(Target::Cnthctl)
-            } else {
-                itself
-            }
-        }
+        2 => { if e2h { Ok(Target::Cnthctl) } else { itself } }
         _ => itself,
     }
 }
@@ -32,9 +26,9 @@ pub fn cnthctl(f: Facts) -> Verdict
 {
     let level = f.level;
     match level {
-        0 => Verdict::Undefined,
-        1 => Verdict::Undefined,
-        _ => Verdict::Reaches(Target::Cnthctl),
+        0 => Err(Stop::Undefined),
+        1 => Err(Stop::Undefined),
+        _ => Ok(Target::Cnthctl),
     }
 }
 
@@ -45,14 +39,14 @@ pub fn cntpoff(f: Facts) -> Verdict
     let level = f.level;
     let there = f.ecv;
     let ecven = f.ecven;
-    let itself = Verdict::Reaches(Target::Cntpoff);
+    let itself = Ok(Target::Cntpoff);
     if !there {
-        return Verdict::Undefined;
+        return Err(Stop::Undefined);
     }
     match level {
-        0 => Verdict::Undefined,
-        1 => Verdict::Undefined,
-        2 => { if ecven { itself } else { Verdict::ToEl3 } }
+        0 => Err(Stop::Undefined),
+        1 => Err(Stop::Undefined),
+        2 => { if ecven { itself } else { Err(Stop::ToEl3) } }
         _ => itself,
     }
 }

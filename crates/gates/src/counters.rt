@@ -5,7 +5,7 @@ ghost use Rattle.rules.specs.Counters as gate;
 
 use crate::cntp::{physical_at_el0, physical_at_el1};
 use crate::cntv::virtual_at_el0;
-use rules::{Facts, Target, Verdict};
+use rules::{Facts, Stop, Target, Verdict};
 
 // EL1PCTEN stands for both EL1 bits of CNTP's rules: E2H has already picked its place.
 #[tactic(auto, unfolding(rules::specs::Counters::cntpct))]
@@ -22,10 +22,10 @@ pub fn cntpct(f: Facts) -> Verdict
             h.el1pcten,
             h.el1pcten,
             h.el0pcten,
-            Verdict::Reaches(Target::Cntpct),
+            Ok(Target::Cntpct),
         ),
-        1 => physical_at_el1(f, h.el1pcten, h.el1pcten, Verdict::Reaches(Target::Cntpct)),
-        _ => Verdict::Reaches(Target::Cntpct),
+        1 => physical_at_el1(f, h.el1pcten, h.el1pcten, Ok(Target::Cntpct)),
+        _ => Ok(Target::Cntpct),
     }
 }
 
@@ -34,9 +34,9 @@ fn cntvct_at_el1(f: Facts) -> Verdict
 {
     let h = f.cnthctl;
     if f.on & h.el1tvct {
-        return Verdict::ToEl2;
+        return Err(Stop::ToEl2);
     }
-    Verdict::Reaches(Target::Cntvct)
+    Ok(Target::Cntvct)
 }
 
 #[tactic(auto, unfolding(rules::specs::Counters::cntvct))]
@@ -47,15 +47,9 @@ pub fn cntvct(f: Facts) -> Verdict
     let k = f.cntkctl;
     let h = f.cnthctl;
     match level {
-        0 => virtual_at_el0(
-            f,
-            k.el0vcten,
-            h.el0vcten,
-            h.el1tvct,
-            Verdict::Reaches(Target::Cntvct),
-        ),
+        0 => virtual_at_el0(f, k.el0vcten, h.el0vcten, h.el1tvct, Ok(Target::Cntvct)),
         1 => cntvct_at_el1(f),
-        _ => Verdict::Reaches(Target::Cntvct),
+        _ => Ok(Target::Cntvct),
     }
 }
 
@@ -63,12 +57,12 @@ pub fn cntvct(f: Facts) -> Verdict
 pub fn self_synchronized(f: Facts, same: Verdict) -> Verdict
     ensures { result ≡ self_synchronized f same }
 {
-    if f.ecv { same } else { Verdict::Undefined }
+    if f.ecv { same } else { Err(Stop::Undefined) }
 }
 
 // All four are Undefined for MSR.
 pub fn read_only(mrs: bool, same: Verdict) -> Verdict
     ensures { result ≡ read_only mrs same }
 {
-    if mrs { same } else { Verdict::Undefined }
+    if mrs { same } else { Err(Stop::Undefined) }
 }

@@ -2,7 +2,7 @@
 ghost use Rattle.std.specs.Prelude.{◌≡◌};
 ghost use Rattle.rules.specs.El2 as gate;
 
-use rules::{Facts, Part, Target, TimerName, Verdict};
+use rules::{Facts, Part, Stop, Target, TimerName, Verdict};
 
 #[tactic(auto, unfolding(rules::specs::El2::cntvoff))]
 pub fn cntvoff(f: Facts) -> Verdict
@@ -10,9 +10,9 @@ pub fn cntvoff(f: Facts) -> Verdict
 {
     let level = f.level;
     match level {
-        0 => Verdict::Undefined,
-        1 => Verdict::Undefined,
-        _ => Verdict::Reaches(Target::Cntvoff),
+        0 => Err(Stop::Undefined),
+        1 => Err(Stop::Undefined),
+        _ => Ok(Target::Cntvoff),
     }
 }
 
@@ -22,9 +22,9 @@ pub fn cnthp(f: Facts, p: Part) -> Verdict
 {
     let level = f.level;
     match level {
-        0 => Verdict::Undefined,
-        1 => Verdict::Undefined,
-        _ => Verdict::Reaches(Target::Timer(TimerName::Cnthp, p)),
+        0 => Err(Stop::Undefined),
+        1 => Err(Stop::Undefined),
+        _ => Ok(Target::Timer(TimerName::Cnthp, p)),
     }
 }
 
@@ -36,14 +36,20 @@ pub fn cnthvs(f: Facts, p: Part) -> Verdict
     let there = f.vhe & f.sel2;
     let secure = f.secure;
     let eel2 = f.eel2;
-    let allowed = Verdict::Reaches(Target::Timer(TimerName::Cnthvs, p));
+    let allowed = Ok(Target::Timer(TimerName::Cnthvs, p));
     if !there {
-        return Verdict::Undefined;
+        return Err(Stop::Undefined);
     }
     match level {
-        0 => Verdict::Undefined,
-        1 => Verdict::Undefined,
-        2 => { if secure { allowed } else { Verdict::Undefined } }
-        _ => { if eel2 { allowed } else { Verdict::Undefined } }
+        0 => Err(Stop::Undefined),
+        1 => Err(Stop::Undefined),
+        2 => {
+            if secure {
+                allowed
+            } else {
+                Err(Stop::Undefined)
+            }
+        }
+        _ => { if eel2 { allowed } else { Err(Stop::Undefined) } }
     }
 }

@@ -18,10 +18,10 @@ pub fn redirected(
     let to_secure = own & f.secure & f.sel2;
     let to_nonsecure = own & !f.secure;
     if to_secure {
-        return Verdict::Reaches(Target::Timer(secure, p));
+        return Ok(Target::Timer(secure, p));
     }
     if to_nonsecure {
-        return Verdict::Reaches(Target::Timer(nonsecure, p));
+        return Ok(Target::Timer(nonsecure, p));
     }
-    Verdict::Reaches(Target::Timer(other, p))
+    Ok(Target::Timer(other, p))
 }

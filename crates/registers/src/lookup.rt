@@ -5,7 +5,7 @@ ghost use Rattle.registers.specs.Rows.{row_of};
 
 use crate::register::Register;
 use crate::word::is_mrs_or_msr;
-use rules::Lookup;
+use rules::Name;
 
 impl Register {
     // Whether the word has this register's five numbers.
@@ -20,7 +20,7 @@ impl Register {
     }
 
     // The walk over the whole list.
-    fn look_up(word: u32) -> Lookup
+    fn look_up(word: u32) -> Option<Name>
         ensures { result ≡ look_up name_table word }
     {
         let all = &Register::ALL;
@@ -28,21 +28,21 @@ impl Register {
             let register = all[i];
             if register.is_named_by(word) {
                 let name = register.name;
-                return Lookup::Named(name);
+                return Some(name);
             }
         }
-        Lookup::NotNamed
+        None
     }
 
     // The name that a word is taken to: NotNamed for one that is not MRS or MSR, and for one that is not in the table.
     #[tactic(auto, unfolding(rules::specs::Names::name_of))]
-    pub fn named_by(word: u32) -> Lookup
+    pub fn named_by(word: u32) -> Option<Name>
         ensures { result ≡ name_of word }
     {
         if is_mrs_or_msr(word) {
             Register::look_up(word)
         } else {
-            Lookup::NotNamed
+            None
         }
     }
 }

@@ -6,9 +6,8 @@ use mathlib.Core.Bool.{Bool, true, false, cond}
 use lib.Dec.{eqb}
 use mathlib.Core.List.{List, [], ◌∷◌, ◌++◌}
 use mathlib.Core.Path.{◌≡◌, refl}
-use Rattle.rules.specs.declared.verdict.Verdict.{Verdict}
 use Rattle.rules.specs.Words.{EL0, EL1, EL2}
-use Rattle.rules.specs.Rules.{Rule, ◌⇒◌, first, at_level}
+use Rattle.rules.specs.Rules.{Verdict, Rule, ◌⇒◌, first, at_level}
 
 pub first_fits : (b : Bool) (v : Verdict) (rs : List Rule) (w : Verdict) → b ≡ true → first (b ⇒ v ∷ rs) w ≡ v
 first_fits b v rs w e = simp e

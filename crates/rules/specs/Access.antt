@@ -1,14 +1,13 @@
 -- 'What the desk answers': one access, in the order 4, 5, then the rules; 6 comes before, and is the journal's.
-use Rattle.std.specs.Prelude.{cond}
+use Rattle.std.specs.Prelude.{cond, Err, None, Ok, Option, Some}
 use Rattle.rules.specs.declared.access.Access.{Access}
 use Rattle.rules.specs.declared.answer.Outcome.{Outcome}
 use Rattle.rules.specs.declared.facts.Facts.{Facts}
-use Rattle.rules.specs.declared.name.Lookup.{Lookup}
-use Rattle.rules.specs.declared.name.Lookup.TheVariants.{Named, NotNamed}
+use Rattle.rules.specs.declared.name.Name.{Name}
 use Rattle.rules.specs.declared.state.State.{State}
 use Rattle.rules.specs.declared.verdict.Target.{Target}
-use Rattle.rules.specs.declared.verdict.Verdict.{Verdict}
-use Rattle.rules.specs.declared.verdict.Verdict.TheVariants.{Undefined, ToEl1, ToEl2, ToEl3, Reaches}
+use Rattle.rules.specs.Rules.{Verdict}
+use Rattle.rules.specs.declared.verdict.Stop.TheVariants.{Undefined, ToEl1, ToEl2, ToEl3}
 use Rattle.rules.specs.Words.{facts_of}
 use Rattle.rules.specs.Names.{name_of, is_mrs, written_operand}
 use Rattle.rules.specs.Verdicts.{verdict_of}
@@ -27,16 +26,16 @@ permitted f s a target =
 
 -- what a verdict comes to
 unfoldable pub ruled : Facts → State → Access → Verdict → Outcome
-ruled f s a Undefined = as_before s (undefined_at a.word)
-ruled f s a ToEl1 = as_before s (trapped trap_to_el1 a.word)
-ruled f s a ToEl2 = as_before s (trapped trap_to_el2 a.word)
-ruled f s a ToEl3 = as_before s (trapped trap_to_el3 a.word)
-ruled f s a (Reaches target) = permitted f s a target
+ruled f s a (Err Undefined) = as_before s (undefined_at a.word)
+ruled f s a (Err ToEl1) = as_before s (trapped trap_to_el1 a.word)
+ruled f s a (Err ToEl2) = as_before s (trapped trap_to_el2 a.word)
+ruled f s a (Err ToEl3) = as_before s (trapped trap_to_el3 a.word)
+ruled f s a (Ok target) = permitted f s a target
 
 -- what an access whose word was looked up comes to: 4, 5, then the rules
-unfoldable pub served : State → Access → Lookup → Outcome
-served s a NotNamed = as_before s (refused not_a_timer_access)
-served s a (Named name) =
+unfoldable pub served : State → Access → Option Name → Outcome
+served s a None = as_before s (refused not_a_timer_access)
+served s a (Some name) =
     cond (impossible_at s a.level)
     (as_before s (refused impossible_context))
     (ruled (facts_of s a.level) s a (verdict_of (facts_of s a.level) name (is_mrs a.word)))

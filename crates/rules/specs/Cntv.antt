@@ -1,11 +1,10 @@
 -- 'Who may touch what', CNTV family (source documents 000 and, for EL1, 002). The count used is in Counts.
-use Rattle.std.specs.Prelude.{Bool, not, ◌&&◌, List, [], ◌∷◌, ◌++◌}
+use Rattle.std.specs.Prelude.{Bool, not, ◌&&◌, List, [], ◌∷◌, ◌++◌, Err}
 use Rattle.rules.specs.declared.facts.Facts.{Facts}
 use Rattle.rules.specs.declared.state.TimerName.TheVariants.{Cntv, Cnthv, Cnthvs}
 use Rattle.rules.specs.declared.name.Part.{Part}
-use Rattle.rules.specs.declared.verdict.Verdict.{Verdict}
-use Rattle.rules.specs.declared.verdict.Verdict.TheVariants.{ToEl2}
-use Rattle.rules.specs.Rules.{Rule, ◌⇒◌, first, at_level, timer}
+use Rattle.rules.specs.declared.verdict.Stop.TheVariants.{ToEl2}
+use Rattle.rules.specs.Rules.{Verdict, Rule, ◌⇒◌, first, at_level, timer}
 use Rattle.rules.specs.Cntp.{denied}
 
 module _ (f : Facts) where
@@ -15,8 +14,8 @@ module _ (f : Facts) where
   abbrev pub a_to_c : Bool → Bool → Bool → List Rule
   a_to_c k_el0vten h_el0vten el1tvt =
       (not host && not k_el0vten) ⇒ denied f  -- (a)
-      ∷ (host && not h_el0vten) ⇒ ToEl2  -- (b)
-      ∷ (on && not host && ecv && el1tvt) ⇒ ToEl2  -- (c)
+      ∷ (host && not h_el0vten) ⇒ Err ToEl2  -- (b)
+      ∷ (on && not host && ecv && el1tvt) ⇒ Err ToEl2  -- (c)
       ∷ []
 
   -- EL0: (a) to (c) with the timer bits, then (d), (e), (f)
@@ -31,7 +30,7 @@ module _ (f : Facts) where
 
   -- EL1: EL2 on, ECV, EL1TVT 1: EL2; else CNTV
   abbrev pub cntv_el1 : Part → Verdict
-  cntv_el1 p = first ((on && ecv && cnthctl.el1tvt) ⇒ ToEl2 ∷ []) (timer Cntv p)
+  cntv_el1 p = first ((on && ecv && cnthctl.el1tvt) ⇒ Err ToEl2 ∷ []) (timer Cntv p)
 
   -- EL2: E2H 1, secure, SEL2: CNTHVS; E2H 1, not secure: CNTHV; else CNTV
   abbrev pub cntv_el2 : Part → Verdict

@@ -1,10 +1,9 @@
 -- 'Who may touch what', CNTKCTL, CNTHCTL and CNTPOFF (Arm's pages; document 02, request 1). What a write stores is in Stored.
-use Rattle.std.specs.Prelude.{not, [], ◌∷◌}
+use Rattle.std.specs.Prelude.{not, [], ◌∷◌, Err, Ok}
 use Rattle.rules.specs.declared.facts.Facts.{Facts}
 use Rattle.rules.specs.declared.verdict.Target.TheVariants.{Cntkctl, Cnthctl, Cntpoff}
-use Rattle.rules.specs.declared.verdict.Verdict.{Verdict}
-use Rattle.rules.specs.declared.verdict.Verdict.TheVariants.{Undefined, ToEl3, Reaches}
-use Rattle.rules.specs.Rules.{◌⇒◌, first, at_level}
+use Rattle.rules.specs.declared.verdict.Stop.TheVariants.{Undefined, ToEl3}
+use Rattle.rules.specs.Rules.{Verdict, ◌⇒◌, first, at_level}
 
 module _ (f : Facts) where
   open f use {level, ecv, ecven, e2h}
@@ -13,21 +12,21 @@ module _ (f : Facts) where
   unfoldable pub cntkctl : Verdict
   cntkctl =
       at_level level
-      Undefined
-      (Reaches Cntkctl)
-      (first (e2h ⇒ Reaches Cnthctl ∷ []) (Reaches Cntkctl))
-      (Reaches Cntkctl)
+      (Err Undefined)
+      (Ok Cntkctl)
+      (first (e2h ⇒ Ok Cnthctl ∷ []) (Ok Cntkctl))
+      (Ok Cntkctl)
 
   -- CNTHCTL: Undefined at EL0 and EL1; itself at EL2 and EL3
   unfoldable pub cnthctl : Verdict
-  cnthctl = at_level level Undefined Undefined (Reaches Cnthctl) (Reaches Cnthctl)
+  cnthctl = at_level level (Err Undefined) (Err Undefined) (Ok Cnthctl) (Ok Cnthctl)
 
   -- CNTPOFF: Undefined without ECV, and at EL0 and EL1; at EL2 with ECVEn 0 a trap to EL3, else itself; itself at EL3
   unfoldable pub cntpoff : Verdict
   cntpoff =
-      first (not ecv ⇒ Undefined ∷ [])
+      first (not ecv ⇒ Err Undefined ∷ [])
       (at_level level
-      Undefined
-      Undefined
-      (first (not ecven ⇒ ToEl3 ∷ []) (Reaches Cntpoff))
-      (Reaches Cntpoff))
+      (Err Undefined)
+      (Err Undefined)
+      (first (not ecven ⇒ Err ToEl3 ∷ []) (Ok Cntpoff))
+      (Ok Cntpoff))

@@ -1,11 +1,9 @@
 -- 'Instruction words and register names': what the bits of a word say, and the table of the twenty registers.
-use Rattle.std.specs.Prelude.{ℕ, ◌+◌, Bool, cond, ◌&&◌, List, [], ◌∷◌, eqb}
+use Rattle.std.specs.Prelude.{ℕ, ◌+◌, Bool, cond, ◌&&◌, List, [], ◌∷◌, eqb, None, Option, Some}
 use Rattle.rules.specs.declared.access.Access.{Access}
 use Rattle.rules.specs.declared.name.Name.{Name}
 use Rattle.rules.specs.declared.name.Name.TheVariants.{Cntpct, Cntvct, Cntpctss, Cntvctss, Cntp, Cntv, Cntvoff, Cnthp, Cnthvs, Cntkctl, Cnthctl, Cntpoff}
 use Rattle.rules.specs.declared.name.Part.TheVariants.{Tval, Ctl, Cval}
-use Rattle.rules.specs.declared.name.Lookup.{Lookup}
-use Rattle.rules.specs.declared.name.Lookup.TheVariants.{Named, NotNamed}
 use Rattle.rules.specs.Bits.{bits, bit}
 
 -- MRS and MSR (register): bits 31..22 are 1101010100, and bit 20 is 1
@@ -90,10 +88,10 @@ is_named_by r word =
     && eqb r.op2 (op2_of word)
 
 -- the first register of a table whose numbers a word has
-abbrev pub look_up : List Row → ℕ → Lookup
-look_up [] word = NotNamed
-look_up (r ∷ rs) word = cond (is_named_by r word) (Named r.name) (look_up rs word)
+abbrev pub look_up : List Row → ℕ → Option Name
+look_up [] word = None
+look_up (r ∷ rs) word = cond (is_named_by r word) (Some r.name) (look_up rs word)
 
 -- the name that a word is taken to: none for a word that is not MRS or MSR, or not in the table
-unfoldable pub name_of : ℕ → Lookup
-name_of word = cond (is_mrs_or_msr word) (look_up name_table word) NotNamed
+unfoldable pub name_of : ℕ → Option Name
+name_of word = cond (is_mrs_or_msr word) (look_up name_table word) None

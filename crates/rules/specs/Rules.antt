@@ -1,11 +1,15 @@
 -- 'Who may touch what': rules are tried in order; the first that fits decides.
-use Rattle.std.specs.Prelude.{ℕ, Bool, cond, List, [], ◌∷◌, eqb}
+use Rattle.std.specs.Prelude.{ℕ, Bool, cond, List, [], ◌∷◌, eqb, Ok, Result}
 use Rattle.rules.specs.declared.state.TimerName.{TimerName}
 use Rattle.rules.specs.declared.name.Part.{Part}
 use Rattle.rules.specs.declared.verdict.Target.TheVariants.{Timer}
-use Rattle.rules.specs.declared.verdict.Verdict.{Verdict}
-use Rattle.rules.specs.declared.verdict.Verdict.TheVariants.{Reaches}
+use Rattle.rules.specs.declared.verdict.Target.{Target}
+use Rattle.rules.specs.declared.verdict.Stop.{Stop}
 use Rattle.rules.specs.Words.{EL0, EL1, EL2}
+
+-- the one register that is reached, or what stops the access
+abbrev pub Verdict : Type 0
+Verdict = Result Target Stop
 
 infix 70 ◌⇒◌
 pub record Rule : Type 0 where
@@ -26,4 +30,4 @@ at_level level el0 el1 el2 el3 = cond (eqb level EL0) el0 (cond (eqb level EL1) 
 
 -- a register of a timer is reached: its part is passed on, and no rule looks at it
 abbrev pub timer : TimerName → Part → Verdict
-timer t p = Reaches (Timer t p)
+timer t p = Ok (Timer t p)

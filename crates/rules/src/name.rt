@@ -23,10 +23,3 @@ pub enum Name {
     Cnthctl,
     Cntpoff,
 }
-
-// What an instruction word is taken to: a name, or none if it is no MRS or MSR or not in the name table.
-#[derive(Clone, Copy)]
-pub enum Lookup {
-    Named(Name),
-    NotNamed,
-}

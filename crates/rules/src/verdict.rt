@@ -1,4 +1,4 @@
-// What a gate says of an access: Undefined, where it traps, or the one register that it reaches.
+// What a gate says of an access: the one register that it reaches, or what stops it.
 use crate::name::Part;
 use crate::state::TimerName;
 
@@ -13,11 +13,13 @@ pub enum Target {
     Cntpoff,
 }
 
+// It is Undefined, or traps to a level.
 #[derive(Clone, Copy)]
-pub enum Verdict {
+pub enum Stop {
     Undefined,
     ToEl1,
     ToEl2,
     ToEl3,
-    Reaches(Target),
 }
+
+pub type Verdict = Result<Target, Stop>;
