@@ -2,6 +2,7 @@
 -- in quotes, as 'Who may touch what', are headings of that page, where each definition stands beside its rule.
 pub mod Bits
 pub mod Words
+pub mod Levels
 pub mod Names
 pub mod Rules
 pub mod Cntp

@@ -13,13 +13,13 @@ pub enum Target {
     Cntpoff,
 }
 
-// It is Undefined, or traps to a level.
+// It is Undefined, or traps to a level; each with its number among the answers.
 #[derive(Clone, Copy)]
 pub enum Stop {
-    Undefined,
-    ToEl1,
-    ToEl2,
-    ToEl3,
+    Undefined = 1,
+    ToEl1 = 2,
+    ToEl2 = 3,
+    ToEl3 = 10,
 }
 
 pub type Verdict = Result<Target, Stop>;
