@@ -1,5 +1,5 @@
 -- What each demand is worth: four impostors that nobody wants meet demand 3, and the rule tables of demand 2 shut out each.
-use Rattle.std.specs.Prelude.{ℕ, zero, suc, cond, false, List, [], ◌++◌, ◌≡◌}
+use Rattle.std.specs.Prelude.{ℕ, zero, suc, if◌then◌else◌, false, List, [], ◌++◌, ◌≡◌}
 use Rattle.rules.specs.declared.access.Access.{Access}
 use Rattle.rules.specs.declared.answer.Outcome.{Outcome}
 use Rattle.rules.specs.declared.state.State.{State}
@@ -67,7 +67,7 @@ pub record ImpostorsClaim : Type 0 where
 -- a guest of which only the physical timer, or only the physical counter, is trapped
 pub record TimerTrapped (s : State) : Type 0 where
   pub guest : Guest s
-  pub timer : cond s.controls.e2h (cnthctl s).el1pten (cnthctl s).el1pcen ≡ false
+  pub timer : (if s.controls.e2h then (cnthctl s).el1pten else (cnthctl s).el1pcen) ≡ false
 
 pub record CounterTrapped (s : State) : Type 0 where
   pub guest : Guest s

@@ -1,7 +1,7 @@
 -- The lease, in the customer's words. A clerk reserves a slot for n ticks, the guest arms its virtual timer for them, and the
 -- lease ends neither early nor late: its end is the moment the timer's line is raised. Time here is the virtual count,
 -- physical less CNTVOFF.
-use Rattle.std.specs.Prelude.{ℕ, ◌+◌, ◌-◌, ◌%◌, ◌^◌, ◌<◌, ◌≤◌, Bool, true, false, cond, List, [], ◌∷◌, ◌⊎◌, ◌≡◌, leb}
+use Rattle.std.specs.Prelude.{ℕ, ◌+◌, ◌-◌, ◌%◌, ◌^◌, ◌<◌, ◌≤◌, Bool, true, false, if◌then◌else◌, List, [], ◌∷◌, ◌⊎◌, ◌≡◌, nat_le}
 use Rattle.rules.specs.declared.access.Access.{Access}
 use Rattle.rules.specs.declared.name.Part.TheVariants.{Tval, Ctl}
 use Rattle.rules.specs.declared.state.State.{State}
@@ -84,12 +84,12 @@ MaskedIsSilent = (s : State) (physical : ℕ) → s.timers.cntv.imask ≡ true �
 -- the line is raised, and ISTATUS, bit 2 beside ENABLE, reads 1, exactly if the virtual count is not below the deadline,
 -- compared unsigned
 pub record EndsAt (s : State) (deadline : ℕ) : Type 0 where
-  pub line : (physical : ℕ) → line_at s physical ≡ leb deadline (virtual_at s physical)
+  pub line : (physical : ℕ) → line_at s physical ≡ nat_le deadline (virtual_at s physical)
   pub status :
       (a : Access) →
       PermittedRead s a (Timer Cntv Ctl) →
       (access_of s a).answer
-      ≡ done_read a.word (known (1 + cond (leb deadline (virtual_at s a.count)) (2 ^ 2) 0))
+      ≡ done_read a.word (known (1 + (if nat_le deadline (virtual_at s a.count) then 2 ^ 2 else 0)))
 
 abbrev pub EndsAtTheDeadline : Type 0
 EndsAtTheDeadline = (s : State) (deadline : ℕ) → Lease s deadline → EndsAt s deadline

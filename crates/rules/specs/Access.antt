@@ -1,5 +1,5 @@
 -- 'What the desk answers': one access, in the order 4, 5, then the rules; 6 comes before, and is the journal's.
-use Rattle.std.specs.Prelude.{cond, Err, None, Ok, Option, Some}
+use Rattle.std.specs.Prelude.{if◌then◌else◌, Err, None, Ok, Option, Some}
 use Rattle.rules.specs.declared.access.Access.{Access}
 use Rattle.rules.specs.declared.answer.Outcome.{Outcome}
 use Rattle.rules.specs.declared.facts.Facts.{Facts}
@@ -20,9 +20,9 @@ use Rattle.rules.specs.Context.{impossible_at}
 -- a permitted access: a read, with Rt 31 like any other, leaves the state as before; a write changes one register
 unfoldable pub permitted : Facts → State → Access → Target → Outcome
 permitted f s a target =
-    cond (is_mrs a.word)
-    (as_before s (done_read a.word (read_of f s a.count target)))
-    (record { answer = done_write a.word; next = write_of f s a.count target (written_operand a) })
+    if is_mrs a.word
+    then as_before s (done_read a.word (read_of f s a.count target))
+    else (record { answer = done_write a.word; next = write_of f s a.count target (written_operand a) })
 
 -- what a verdict comes to
 unfoldable pub ruled : Facts → State → Access → Verdict → Outcome
@@ -36,9 +36,9 @@ ruled f s a (Ok target) = permitted f s a target
 unfoldable pub served : State → Access → Option Name → Outcome
 served s a None = as_before s (refused not_a_timer_access)
 served s a (Some name) =
-    cond (impossible_at s a.level)
-    (as_before s (refused impossible_context))
-    (ruled (facts_of s a.level) s a (verdict_of (facts_of s a.level) name (is_mrs a.word)))
+    if impossible_at s a.level
+    then as_before s (refused impossible_context)
+    else ruled (facts_of s a.level) s a (verdict_of (facts_of s a.level) name (is_mrs a.word))
 
 -- one access to a state
 unfoldable pub access_of : State → Access → Outcome

@@ -1,5 +1,5 @@
 -- 'Values': all sums and differences wrap at 64 bits.
-use Rattle.std.specs.Prelude.{ℕ, ◌+◌, ◌-◌, ◌%◌, ◌^◌, cond}
+use Rattle.std.specs.Prelude.{ℕ, ◌+◌, ◌-◌, ◌%◌, ◌^◌, if◌then◌else◌}
 use Rattle.rules.specs.Bits.{bits, bit}
 
 infixl 65 ◌plus◌ ◌less◌
@@ -12,4 +12,4 @@ a less b = (a + 2 ^ 64 - b) % 2 ^ 64
 
 -- a word's low 32 bits taken as signed, at 64 bits
 abbrev pub signed32 : ℕ → ℕ
-signed32 x = cond (bit 31 x) (bits 31 0 x less 2 ^ 32) (bits 31 0 x)
+signed32 x = if bit 31 x then bits 31 0 x less 2 ^ 32 else bits 31 0 x

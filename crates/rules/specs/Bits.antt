@@ -1,6 +1,6 @@
 -- Bits of a word, and the bits of the two control registers by the names of the Arm manual ('The machine we model').
 -- Other bits are ignored.
-use Rattle.std.specs.Prelude.{ℕ, ◌+◌, ◌-◌, ◌/◌, ◌%◌, ◌^◌, Bool, cond, eqb}
+use Rattle.std.specs.Prelude.{ℕ, ◌+◌, ◌-◌, ◌/◌, ◌%◌, ◌^◌, Bool, if◌then◌else◌, ◌==◌}
 use Rattle.rules.specs.declared.facts.Cntkctl.{Cntkctl}
 use Rattle.rules.specs.declared.facts.Cnthctl.{Cnthctl}
 
@@ -10,7 +10,7 @@ bits hi lo x = x / 2 ^ lo % 2 ^ (hi - lo + 1)
 
 -- bit k of a word is 1
 abbrev pub bit : ℕ → ℕ → Bool
-bit k x = eqb (bits k k x) 1
+bit k x = bits k k x == 1
 
 -- CNTKCTL: EL0PCTEN 0, EL0VCTEN 1, EL0VTEN 8, EL0PTEN 9
 abbrev pub cntkctl_of : ℕ → Cntkctl
@@ -25,7 +25,7 @@ cnthctl_of e2h x =
       el0vcten = bit 1 x;
       el0vten = bit 8 x;
       el0pten = bit 9 x;
-      el1pcten = cond e2h (bit 10 x) (bit 0 x);
+      el1pcten = if e2h then bit 10 x else bit 0 x;
       el1pcen = bit 1 x;
       el1pten = bit 11 x;
       ecv = bit 12 x;

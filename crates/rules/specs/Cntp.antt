@@ -1,5 +1,5 @@
 -- 'Who may touch what', CNTP family (source document 001); CTL and CVAL share the gates of TVAL. The count used is in Counts.
-use Rattle.std.specs.Prelude.{Bool, not, cond, ◌&&◌, List, [], ◌∷◌, ◌++◌, Err}
+use Rattle.std.specs.Prelude.{Bool, not, if◌then◌else◌, ◌&&◌, List, [], ◌∷◌, ◌++◌, Err}
 use Rattle.rules.specs.declared.facts.Facts.{Facts}
 use Rattle.rules.specs.declared.state.TimerName.TheVariants.{Cntp, Cnthp, Cnthps}
 use Rattle.rules.specs.declared.name.Part.{Part}
@@ -11,7 +11,7 @@ module _ (f : Facts) where
 
   -- the trap of (a): to EL2 if EL2 on and TGE 1, else to EL1
   abbrev pub denied : Verdict
-  denied = cond (on && tge) (Err ToEl2) (Err ToEl1)
+  denied = if on && tge then Err ToEl2 else Err ToEl1
 
   -- EL0, (a) to (d), over the bits that they read: CNTKCTL.EL0PTEN, EL1PCEN, EL1PTEN, CNTHCTL.EL0PTEN
   abbrev pub a_to_d : Bool → Bool → Bool → Bool → List Rule
@@ -24,7 +24,7 @@ module _ (f : Facts) where
 
   -- EL1, the rule over the bits that it reads: EL2 on and the EL1 bit (PCEN for E2H 0, PTEN for E2H 1) 0: EL2
   abbrev pub el1_rule : Bool → Bool → List Rule
-  el1_rule el1pcen el1pten = (on && not (cond e2h el1pten el1pcen)) ⇒ Err ToEl2 ∷ []
+  el1_rule el1pcen el1pten = (on && not (if e2h then el1pten else el1pcen)) ⇒ Err ToEl2 ∷ []
 
   -- EL0: (a) to (d) with the timer bits, then (e), (f), (g)
   abbrev pub cntp_el0 : Part → Verdict

@@ -1,5 +1,5 @@
 -- 'What the desk answers': when 5 holds.
-use Rattle.std.specs.Prelude.{ℕ, Bool, not, ◌&&◌, ◌||◌, eqb, ltb}
+use Rattle.std.specs.Prelude.{ℕ, Bool, not, ◌&&◌, ◌||◌, ◌==◌, nat_lt}
 use Rattle.rules.specs.declared.state.State.{State}
 use Rattle.rules.specs.Words.{EL1, EL2, EL3, on, cnthctl}
 
@@ -18,4 +18,4 @@ module _ (s : State) where
 
   -- and those of an access: level above 3; level EL2 with EL2 not on; level EL1 with EL2 on and TGE 1
   unfoldable pub impossible_at : ℕ → Bool
-  impossible_at level = ltb EL3 level || impossible || (eqb level EL2 && not (on s)) || (eqb level EL1 && on s && tge)
+  impossible_at level = nat_lt EL3 level || impossible || (level == EL2 && not (on s)) || (level == EL1 && on s && tge)

@@ -1,6 +1,6 @@
 -- The counts, each from the physical count of the access: what an access at a level sees of it, the count used, and the
 -- count of the condition, which has no level.
-use Rattle.std.specs.Prelude.{ℕ, Bool, cond, ◌&&◌, ◌||◌, eqb}
+use Rattle.std.specs.Prelude.{ℕ, Bool, if◌then◌else◌, ◌&&◌, ◌||◌, ◌==◌}
 use Rattle.rules.specs.declared.facts.Facts.{Facts}
 use Rattle.rules.specs.declared.state.State.{State}
 use Rattle.rules.specs.declared.state.TimerName.{TimerName}
@@ -14,11 +14,11 @@ virtual s physical = physical less s.cntvoff
 
 -- physical, less CNTPOFF where that applies
 abbrev pub offset_physical : Bool → State → ℕ → ℕ
-offset_physical applies s physical = cond applies (physical less s.cntpoff) physical
+offset_physical applies s physical = if applies then physical less s.cntpoff else physical
 
 -- at EL0 and EL1 with offset on
 abbrev pub offset_seen : Facts → Bool
-offset_seen f = (eqb f.level EL0 || eqb f.level EL1) && f.offset
+offset_seen f = (f.level == EL0 || f.level == EL1) && f.offset
 
 -- CNTPCT's value: physical, less CNTPOFF at EL0 and EL1 with offset on
 abbrev pub physical_seen : Facts → State → ℕ → ℕ
@@ -27,7 +27,7 @@ physical_seen f s physical = offset_physical (offset_seen f) s physical
 -- CNTVCT's value: physical less CNTVOFF, but physical alone for host at EL0 and for E2H 1 at EL2
 abbrev pub virtual_seen : Facts → State → ℕ → ℕ
 virtual_seen f s physical =
-    cond ((f.host && eqb f.level EL0) || (f.e2h && eqb f.level EL2)) physical (virtual s physical)
+    if (f.host && f.level == EL0) || (f.e2h && f.level == EL2) then physical else virtual s physical
 
 -- a timer's count: CNTV, physical less CNTVOFF, also where EL2 exists but is not on; CNTP, physical, less CNTPOFF where that
 -- applies; the others, physical

@@ -1,5 +1,5 @@
 -- 'The access journal' and the answers 6, 7 and 8: a record read, an answer packed, one record served, and the run.
-use Rattle.std.specs.Prelude.{ℕ, suc, zero, ◌+◌, ◌*◌, ◌/◌, ◌%◌, Bool, cond, not, ◌||◌, List, [], ◌∷◌, ◌++◌, eqb, ltb, length, drop}
+use Rattle.std.specs.Prelude.{ℕ, suc, zero, ◌+◌, ◌*◌, ◌/◌, ◌%◌, Bool, if◌then◌else◌, not, ◌||◌, List, [], ◌∷◌, ◌++◌, ◌==◌, nat_lt, length, drop}
 use Rattle.rules.specs.declared.answer.Answer.{Answer}
 use Rattle.rules.specs.declared.answer.Outcome.{Outcome}
 use Rattle.rules.specs.declared.record.Record.{Record}
@@ -45,9 +45,9 @@ answer_bytes a = bytes_of_words (answer_words a)
 -- one record: 6 if a reserved bit is set, else as the desk answers
 unfoldable pub record_served : State → Record → Outcome
 record_served s r =
-    cond (eqb r.reserved 0)
-    (access_of s r.access)
-    (as_before s (refused reserved_bit_set))
+    if r.reserved == 0
+    then access_of s r.access
+    else as_before s (refused reserved_bit_set)
 
 -- records run in order on one state, and a refused record doesn't stop the run: the state after the first n, and their
 -- answers, each in its own 24 bytes
@@ -68,19 +68,20 @@ abbrev pub buffer_too_short : ℕ
 buffer_too_short = 8
 
 abbrev pub is_bad_journal : List ℕ → Bool
-is_bad_journal journal = not (eqb (length journal % record_bytes) 0) || ltb limit (length journal / record_bytes)
+is_bad_journal journal = not (length journal % record_bytes == 0) || nat_lt limit (length journal / record_bytes)
 
 abbrev pub is_buffer_too_short : List ℕ → List ℕ → Bool
-is_buffer_too_short journal buffer = ltb (length buffer) (length journal)
+is_buffer_too_short journal buffer = nat_lt (length buffer) (length journal)
 
 -- order: 7, 8; a run not refused with 7 or 8 answers 0 itself
 abbrev pub run_number : List ℕ → List ℕ → ℕ
-run_number journal buffer = cond (is_bad_journal journal) bad_journal (cond (is_buffer_too_short journal buffer) buffer_too_short done)
+run_number journal buffer =
+    if is_bad_journal journal then bad_journal else if is_buffer_too_short journal buffer then buffer_too_short else done
 
 -- how many records are served: a refused run serves none
 abbrev pub turns : List ℕ → List ℕ → ℕ
 turns journal buffer =
-    cond (is_bad_journal journal) 0 (cond (is_buffer_too_short journal buffer) 0 (length journal / record_bytes))
+    if is_bad_journal journal then 0 else if is_buffer_too_short journal buffer then 0 else length journal / record_bytes
 
 -- the run: its number and the state after it
 unfoldable pub run_of : State → List ℕ → List ℕ → Run

@@ -1,5 +1,5 @@
 -- The lines question: which timer lines are raised at a physical count; 5 on the grounds that have no level.
-use Rattle.std.specs.Prelude.{ℕ, Bool, false, cond}
+use Rattle.std.specs.Prelude.{ℕ, Bool, false, if◌then◌else◌}
 use Rattle.rules.specs.declared.answer.Lines.{Lines}
 use Rattle.rules.specs.declared.state.State.{State}
 use Rattle.rules.specs.declared.state.TimerName.{TimerName}
@@ -31,4 +31,4 @@ line_of s physical t = raised (get s.timers t) (condition_count (offset_on s) s 
 -- 5 with no line raised; else 0 with each line
 unfoldable pub lines_of : State → ℕ → Lines
 lines_of s physical =
-    cond (impossible s) (lines_by impossible_context (λ _. false)) (lines_by done (line_of s physical))
+    if impossible s then lines_by impossible_context (λ _. false) else lines_by done (line_of s physical)

@@ -1,5 +1,5 @@
 -- 'Instruction words and register names': what the bits of a word say, and the table of the twenty registers.
-use Rattle.std.specs.Prelude.{ℕ, ◌+◌, Bool, cond, ◌&&◌, List, [], ◌∷◌, eqb, None, Option, Some}
+use Rattle.std.specs.Prelude.{ℕ, ◌+◌, Bool, if◌then◌else◌, ◌&&◌, List, [], ◌∷◌, ◌==◌, None, Option, Some}
 use Rattle.rules.specs.declared.access.Access.{Access}
 use Rattle.rules.specs.declared.name.Name.{Name}
 use Rattle.rules.specs.declared.name.Name.TheVariants.{Cntpct, Cntvct, Cntpctss, Cntvctss, Cntp, Cntv, Cntvoff, Cnthp, Cnthvs, Cntkctl, Cnthctl, Cntpoff}
@@ -8,7 +8,7 @@ use Rattle.rules.specs.Bits.{bits, bit}
 
 -- MRS and MSR (register): bits 31..22 are 1101010100, and bit 20 is 1
 abbrev pub is_mrs_or_msr : ℕ → Bool
-is_mrs_or_msr word = eqb (bits 31 22 word) 0b1101010100 && bit 20 word
+is_mrs_or_msr word = bits 31 22 word == 0b1101010100 && bit 20 word
 
 -- bit 21 is 1 for MRS
 abbrev pub is_mrs : ℕ → Bool
@@ -39,7 +39,7 @@ an_access word level operand count = record { word = word; level = level; operan
 
 -- MSR with Rt 31 writes 0, whatever operand is lent
 abbrev pub written_operand : Access → ℕ
-written_operand a = cond (eqb (rt_of a.word) 31) 0 a.operand
+written_operand a = if rt_of a.word == 31 then 0 else a.operand
 
 -- a register: one name with its five encoding numbers
 pub record Row : Type 0 where
@@ -81,17 +81,17 @@ name_table =
 -- a word has a register's five numbers
 abbrev pub is_named_by : Row → ℕ → Bool
 is_named_by r word =
-    eqb r.op0 (op0_of word)
-    && eqb r.op1 (op1_of word)
-    && eqb r.crn (crn_of word)
-    && eqb r.crm (crm_of word)
-    && eqb r.op2 (op2_of word)
+    r.op0 == op0_of word
+    && r.op1 == op1_of word
+    && r.crn == crn_of word
+    && r.crm == crm_of word
+    && r.op2 == op2_of word
 
 -- the first register of a table whose numbers a word has
 abbrev pub look_up : List Row → ℕ → Option Name
 look_up [] word = None
-look_up (r ∷ rs) word = cond (is_named_by r word) (Some r.name) (look_up rs word)
+look_up (r ∷ rs) word = if is_named_by r word then Some r.name else look_up rs word
 
 -- the name that a word is taken to: none for a word that is not MRS or MSR, or not in the table
 unfoldable pub name_of : ℕ → Option Name
-name_of word = cond (is_mrs_or_msr word) (look_up name_table word) None
+name_of word = if is_mrs_or_msr word then look_up name_table word else None

@@ -1,6 +1,6 @@
 -- 'The access journal': bit-packed, most significant bit first. A record and an answer are words of 64 bits, and a word is a
 -- list of fields by their widths.
-use Rattle.std.specs.Prelude.{ℕ, ◌+◌, ◌*◌, ◌/◌, ◌%◌, ◌^◌, List, [], ◌∷◌, ◌++◌, get_or}
+use Rattle.std.specs.Prelude.{ℕ, ◌+◌, ◌*◌, ◌/◌, ◌%◌, ◌^◌, List, [], ◌∷◌, ◌++◌, slice_index}
 use Rattle.rules.specs.Bits.{bits}
 
 -- a field to be packed: its width and its value, of which it holds the low bits
@@ -41,10 +41,10 @@ bytes_of_words (w ∷ ws) = bytes_of (packed w) ++ bytes_of_words ws
 -- the number that four bytes make, and the word that eight make, from a place on
 abbrev pub half_at : List ℕ → ℕ → ℕ
 half_at bytes at =
-    get_or bytes at 0 * 2 ^ 24
-    + get_or bytes (at + 1) 0 * 2 ^ 16
-    + get_or bytes (at + 2) 0 * 2 ^ 8
-    + get_or bytes (at + 3) 0
+    slice_index bytes at * 2 ^ 24
+    + slice_index bytes (at + 1) * 2 ^ 16
+    + slice_index bytes (at + 2) * 2 ^ 8
+    + slice_index bytes (at + 3)
 
 abbrev pub word_at : List ℕ → ℕ → ℕ
 word_at bytes at = half_at bytes at * 2 ^ 32 + half_at bytes (at + 4)
@@ -60,4 +60,4 @@ cut (w ∷ ws) x = x / 2 ^ total ws % 2 ^ w ∷ cut ws x
 
 -- the field of a number, counted from 0
 abbrev pub nth : ℕ → List ℕ → ℕ
-nth k fields = get_or fields k 0
+nth k fields = slice_index fields k

@@ -1,5 +1,5 @@
 -- 'Who may touch what': rules are tried in order; the first that fits decides.
-use Rattle.std.specs.Prelude.{ℕ, Bool, cond, List, [], ◌∷◌, eqb, Ok, Result}
+use Rattle.std.specs.Prelude.{ℕ, Bool, if◌then◌else◌, List, [], ◌∷◌, ◌==◌, Ok, Result}
 use Rattle.rules.specs.declared.state.TimerName.{TimerName}
 use Rattle.rules.specs.declared.name.Part.{Part}
 use Rattle.rules.specs.declared.verdict.Target.TheVariants.{Timer}
@@ -22,11 +22,12 @@ fits ⇒ gives = record { fits = fits; gives = gives }
 -- what the first rule that fits gives, or what holds where none does
 abbrev pub first : List Rule → Verdict → Verdict
 first [] otherwise = otherwise
-first (r ∷ rs) otherwise = cond r.fits r.gives (first rs otherwise)
+first (r ∷ rs) otherwise = if r.fits then r.gives else first rs otherwise
 
 -- a family's verdicts at EL0, EL1, EL2 and EL3; a level above 3 is refused with 5 before any rule is asked
 abbrev pub at_level : ℕ → Verdict → Verdict → Verdict → Verdict → Verdict
-at_level level el0 el1 el2 el3 = cond (eqb level EL0) el0 (cond (eqb level EL1) el1 (cond (eqb level EL2) el2 el3))
+at_level level el0 el1 el2 el3 =
+    if level == EL0 then el0 else if level == EL1 then el1 else if level == EL2 then el2 else el3
 
 -- a register of a timer is reached: its part is passed on, and no rule looks at it
 abbrev pub timer : TimerName → Part → Verdict

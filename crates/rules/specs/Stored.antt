@@ -1,6 +1,6 @@
 -- 'Stored bits' (Arm's pages; document 02, request 1): what a write of CNTKCTL or CNTHCTL stores, as the page of each has its
 -- fields. A bit that the page reserves for the features that are there, or for E2H, is stored as 0.
-use Rattle.std.specs.Prelude.{ℕ, ◌+◌, ◌-◌, ◌*◌, ◌^◌, Bool, true, false, not, cond, List, [], ◌∷◌, map, ◌≡◌}
+use Rattle.std.specs.Prelude.{ℕ, ◌+◌, ◌-◌, ◌*◌, ◌^◌, Bool, true, false, not, if◌then◌else◌, List, [], ◌∷◌, map, ◌≡◌}
 use Rattle.rules.specs.Bits.{bits}
 
 -- the fields by the names of the page. EVNTEN, EVNTDIR, EVNTI and EVNTIS are the event stream's, EL1NVPCT and EL1NVVCT nested
@@ -79,7 +79,7 @@ cnthctl_fields e2h ecv =
 -- what a write of x stores: each field that is there, in its place; every other bit is 0
 abbrev pub stored : List Field → ℕ → ℕ
 stored [] x = 0
-stored (f ∷ fs) x = cond f.there (bits f.high f.low x * 2 ^ f.low) 0 + stored fs x
+stored (f ∷ fs) x = (if f.there then bits f.high f.low x * 2 ^ f.low else 0) + stored fs x
 
 -- what a write of CNTKCTL stores, by ECV, and one of CNTHCTL, by E2H at the moment of the write and ECV
 unfoldable pub stored_cntkctl : Bool → ℕ → ℕ

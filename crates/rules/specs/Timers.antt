@@ -1,5 +1,5 @@
 -- One of the six timers, by its name: taken out of the six, and put in its place.
-use Rattle.std.specs.Prelude.{ℕ, Bool, cond, eqb}
+use Rattle.std.specs.Prelude.{ℕ, Bool, if◌then◌else◌, ◌==◌}
 use Rattle.rules.specs.declared.state.Timers.{Timers}
 use Rattle.rules.specs.declared.state.Timer.{Timer}
 use Rattle.rules.specs.declared.state.TimerName.{TimerName}
@@ -15,7 +15,7 @@ place_of Cnthps = 4
 place_of Cnthvs = 5
 
 abbrev pub same : TimerName → TimerName → Bool
-same t u = eqb (place_of t) (place_of u)
+same t u = place_of t == place_of u
 
 abbrev pub timer_of : ℕ → Bool → Bool → Timer
 timer_of cval enable imask = record { cval = cval; enable = enable; imask = imask }
@@ -34,4 +34,4 @@ six x = record { cntp = x Cntp; cntv = x Cntv; cnthp = x Cnthp; cnthv = x Cnthv;
 
 -- the six with x in the place of t, the others as they are
 abbrev pub put : Timers → TimerName → Timer → Timers
-put ts t x = six (λ u. cond (same t u) x (get ts u))
+put ts t x = six (λ u. if same t u then x else get ts u)

@@ -1,6 +1,6 @@
 -- 'Values', 'Stored bits' and 'Timer met': what a register that was reached reads as, and what a write leaves in it. Nothing here knows
 -- of gates.
-use Rattle.std.specs.Prelude.{ℕ, ◌+◌, ◌-◌, ◌^◌, Bool, cond, not, ◌&&◌, leb}
+use Rattle.std.specs.Prelude.{ℕ, ◌+◌, ◌-◌, ◌^◌, Bool, if◌then◌else◌, not, ◌&&◌, nat_le}
 use Rattle.rules.specs.declared.answer.Value.{Value}
 use Rattle.rules.specs.declared.facts.Facts.{Facts}
 use Rattle.rules.specs.declared.name.Part.{Part}
@@ -22,7 +22,7 @@ known x = record { value = x; mask = 0 }
 
 -- TVAL read: ENABLE 0, all 64 bits unknown; else CVAL less the count, as document 001's steps have it
 abbrev pub read_tval : Timer → ℕ → Value
-read_tval t used = cond t.enable (known (t.cval less used)) (record { value = 0; mask = 2 ^ 64 - 1 })
+read_tval t used = if t.enable then known (t.cval less used) else (record { value = 0; mask = 2 ^ 64 - 1 })
 
 -- TVAL write: CVAL becomes the count plus the operand's low 32 bits taken as signed
 abbrev pub write_tval : Timer → ℕ → ℕ → Timer
@@ -30,14 +30,14 @@ write_tval t used x = timer_of (used plus signed32 x) t.enable t.imask
 
 -- timer met: ENABLE 1 and the count not below CVAL, both unsigned (002: zero-extended)
 abbrev pub met : Timer → ℕ → Bool
-met t condition = t.enable && leb t.cval condition
+met t condition = t.enable && nat_le t.cval condition
 
 -- a line is raised if met and IMASK is 0
 abbrev pub raised : Timer → ℕ → Bool
 raised t condition = met t condition && not t.imask
 
 abbrev flag : ℕ → Bool → ℕ
-flag k b = cond b (2 ^ k) 0
+flag k b = if b then 2 ^ k else 0
 
 -- CTL: bit 0 ENABLE, bit 1 IMASK, bit 2 ISTATUS, the rest 0; with ENABLE 0, bit 2 is unknown
 abbrev pub read_ctl : Timer → ℕ → Value

@@ -1,6 +1,6 @@
 -- 'Words used below': EL2 on, host, secure, offset on, physical trapped; and the facts of a state at a level, which
 -- collect for the rules what they ask. The word 'controls' is the struct `Controls`.
-use Rattle.std.specs.Prelude.{ℕ, Bool, not, cond, ◌&&◌, ◌||◌, eqb}
+use Rattle.std.specs.Prelude.{ℕ, Bool, not, if◌then◌else◌, ◌&&◌, ◌||◌, ◌==◌}
 use Rattle.rules.specs.declared.state.State.{State}
 use Rattle.rules.specs.declared.facts.Facts.{Facts}
 use Rattle.rules.specs.declared.facts.Cntkctl.{Cntkctl}
@@ -42,7 +42,7 @@ module _ (s : State) where
 
   -- secure: NS is 0, or the level is EL3
   abbrev pub secure : ℕ → Bool
-  secure level = not ns || eqb level EL3
+  secure level = not ns || level == EL3
 
   -- offset on: ECV, EL2 on, ECVEn 1, CNTHCTL.ECV 1, not host
   abbrev pub offset_on : Bool
@@ -50,7 +50,7 @@ module _ (s : State) where
 
   -- physical trapped: EL1PCTEN 0 and EL1PCEN (E2H 0) or EL1PTEN (E2H 1) 0
   abbrev pub physical_trapped : Bool
-  physical_trapped = not cnthctl.el1pcten && not (cond e2h cnthctl.el1pten cnthctl.el1pcen)
+  physical_trapped = not cnthctl.el1pcten && not (if e2h then cnthctl.el1pten else cnthctl.el1pcen)
 
   -- what the rules ask of the state at a level
   unfoldable pub facts_of : ℕ → Facts
