@@ -11,7 +11,7 @@ use Rattle.rules.specs.declared.verdict.Target.{Target}
 use Rattle.rules.specs.declared.verdict.Target.TheVariants.{Cntpct, Cntvct, Cntvoff, Cntkctl, Cnthctl, Cntpoff}
 use Rattle.rules.specs.Bits.{bit}
 use Rattle.rules.specs.Arithmetic.{◌plus◌, ◌less◌, signed32}
-use Rattle.rules.specs.Timers.{timer_of, get, put}
+use Rattle.rules.specs.Timers.{get, put}
 use Rattle.rules.specs.States.{with_timers, with_cntvoff, with_cntpoff, with_cntkctl, with_cnthctl}
 use Rattle.rules.specs.Counts.{physical_seen, virtual_seen, used_count, condition_count}
 use Rattle.rules.specs.Stored.{stored_cntkctl, stored_cnthctl}
@@ -26,7 +26,7 @@ read_tval t used = if t.enable then known (t.cval less used) else (record { valu
 
 -- TVAL write: CVAL becomes the count plus the operand's low 32 bits taken as signed
 abbrev pub write_tval : Timer → ℕ → ℕ → Timer
-write_tval t used x = timer_of (used plus signed32 x) t.enable t.imask
+write_tval t used x = record t { cval = used plus signed32 x }
 
 -- timer met: ENABLE 1 and the count not below CVAL, both unsigned (002: zero-extended)
 abbrev pub met : Timer → ℕ → Bool
@@ -49,11 +49,11 @@ read_ctl t condition =
 
 -- a write keeps bits 0 and 1
 abbrev pub write_ctl : Timer → ℕ → Timer
-write_ctl t x = timer_of t.cval (bit 0 x) (bit 1 x)
+write_ctl t x = record t { enable = bit 0 x; imask = bit 1 x }
 
 -- CVAL is written whole
 abbrev pub write_cval : Timer → ℕ → Timer
-write_cval t x = timer_of x t.enable t.imask
+write_cval t x = record t { cval = x }
 
 -- one timer read, CVAL whole, over the count used and the count of the condition
 unfoldable pub read_timer : Timer → Part → ℕ → ℕ → Value

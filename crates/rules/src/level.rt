@@ -1,5 +1,6 @@
 // The exception levels.
-ghost use Rattle.rules.specs.Levels.{IsLevelOf};
+ghost use Rattle.std.specs.Prelude.{◌≡◌};
+ghost use Rattle.rules.specs.Levels.{level_of};
 
 #[derive(Clone, Copy, PartialEq, Eq)]
 pub enum Level {
@@ -11,7 +12,7 @@ pub enum Level {
 
 // A level above 3 is refused with 5 before any rule is asked; the rules take it for EL3.
 impl From<u8> for Level {
-    ghost from_gives = { IsLevelOf };
+    ghost from_gives = { λ n level. level ≡ level_of n };
 
     fn from(level: u8) -> Level {
         match level {
