@@ -5,10 +5,10 @@ ghost use Rattle.rules.specs.Lines.{lines_of};
 ghost use Rattle.rules.specs.Timers as timers_by_name;
 ghost use Rattle.rules.specs.Values as rule;
 
-use crate::answers::{DONE, IMPOSSIBLE_CONTEXT};
+use crate::answers::DONE;
 use crate::context::impossible;
 use gates::offset_on;
-use rules::{Lines, State, TimerName};
+use rules::{Lines, Refusal, State, TimerName};
 use timers::{count_of, get, raised};
 
 fn line(offset_on: bool, s: State, physical: u64, t: TimerName) -> bool
@@ -25,7 +25,7 @@ pub fn lines(s: State, physical: u64) -> Lines
 {
     if impossible(s) {
         return Lines {
-            number: IMPOSSIBLE_CONTEXT,
+            number: Refusal::ImpossibleContext as u8,
             cntp: false,
             cntv: false,
             cnthp: false,

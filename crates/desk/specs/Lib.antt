@@ -1,0 +1,3 @@
+-- What the desk's own functions promise, beside the rulebook.
+pub mod Numbers
+pub mod Refused
