@@ -1,24 +1,13 @@
-// The answers by their numbers, 0 to 3 and 10 made from the word (RULES, 'What the desk answers').
+// The answers, 0 to 3 and 10 made from the word (RULES, 'What the desk answers').
 ghost use Rattle.std.specs.Prelude.{◌≡◌};
-ghost use Rattle.rules.specs.Answers.{done_read, done_write, undefined_at, as_before};
+ghost use Rattle.rules.specs.Answers.{done_read, done_write, as_before};
 ghost use Rattle.rules.specs.Answers as rule;
+ghost use Rattle.desk.specs.Numbers.{stop_number};
 
 use registers::rt;
-use rules::{Answer, Outcome, State, Value};
+use rules::{Answer, Outcome, State, Stop, Value};
 
 pub const DONE: u8 = 0;
-
-pub const UNDEFINED: u8 = 1;
-
-pub const TRAP_TO_EL1: u8 = 2;
-
-pub const TRAP_TO_EL2: u8 = 3;
-
-pub const NOT_A_TIMER_ACCESS: u8 = 4;
-
-pub const IMPOSSIBLE_CONTEXT: u8 = 5;
-
-pub const TRAP_TO_EL3: u8 = 10;
 
 // 0 to 3 and 10 give the word's Rt.
 fn answered(number: u8, word: u32, value: u64, mask: u64) -> Answer
@@ -45,16 +34,11 @@ pub fn done_write(word: u32) -> Answer
     answered(DONE, word, 0, 0)
 }
 
-pub fn undefined(word: u32) -> Answer
-    ensures { result ≡ undefined_at word }
+// Undefined, or a trap.
+pub fn stopped(stop: Stop, word: u32) -> Answer
+    ensures { result ≡ rule.answered (stop_number stop) word 0 0 }
 {
-    answered(UNDEFINED, word, 0, 0)
-}
-
-pub fn trapped(number: u8, word: u32) -> Answer
-    ensures { result ≡ rule.trapped number word }
-{
-    answered(number, word, 0, 0)
+    answered(stop as u8, word, 0, 0)
 }
 
 pub fn refused(number: u8) -> Answer

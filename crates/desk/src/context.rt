@@ -4,7 +4,7 @@ ghost use Rattle.rules.specs.Context.{impossible_at};
 ghost use Rattle.rules.specs.Context as rule;
 
 use gates::{cnthctl, el2_on};
-use rules::{Features, State};
+use rules::{Controls, Features, Level, State};
 
 // The grounds that have no level.
 #[tactic(auto, unfolding(rules::specs::Context::impossible))]
@@ -12,21 +12,26 @@ pub fn impossible(s: State) -> bool
     ensures { result ≡ rule.impossible s }
 {
     let Features { vhe, sel2, ecv } = s.features;
-    let controls = s.controls;
-    let e2h = controls.e2h;
-    let eel2 = controls.eel2;
-    let ecven = controls.ecven;
+    let Controls {
+        e2h,
+        eel2,
+        ecven,
+        ..
+    } = s.controls;
     let h = cnthctl(s);
-    (e2h & !vhe) | (eel2 & !sel2) | ((ecven | h.ecv | h.el1tvt | h.el1tvct) & !ecv)
+    (e2h && !vhe) || (eel2 && !sel2) || ((ecven || h.ecv || h.el1tvt || h.el1tvct) && !ecv)
 }
 
 #[tactic(auto, unfolding(rules::specs::Context::impossible_at))]
 pub fn impossible_at(s: State, level: u8) -> bool
     ensures { result ≡ impossible_at s level }
 {
-    let controls = s.controls;
-    let tge = controls.tge;
-    let at_any_level = impossible(s);
     let on = el2_on(s);
-    (level > 3) | at_any_level | ((level == 2) & !on) | ((level == 1) & on & tge)
+    level > 3
+        || impossible(s)
+        || match Level::from(level) {
+            Level::El1 => on && s.controls.tge,
+            Level::El2 => !on,
+            Level::El0 | Level::El3 => false,
+        }
 }
