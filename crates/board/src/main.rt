@@ -15,7 +15,9 @@ const ROOM: usize = 2 * RECORD_LIMIT * RECORD_BYTES;
 fn main(rt: HostRuntime) -> io::Result<()> {
     let mut input = [0; ROOM];
     let mut answers = [0; ROOM];
+    // `probe` reads alike: what both stand on is linked into a hypervisor, and is no place for what reads an input.
     let copied = io::copy(&mut rt.stdin().take(ROOM as u64), &mut &mut input[..])?;
+    // No clause of std says that it copies no more than there is room.
     let journal = &input[..(copied as usize).min(ROOM)];
     let answers = &mut answers[..journal.len()];
     let ran = journal::run(start(), journal, answers);

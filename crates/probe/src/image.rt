@@ -1,219 +1,114 @@
 // The image of a state: 128 bytes, fields in the order of RULES, 'The state', most significant bit first, zeros, 0xA5 last.
+use crate::bits::{Packed, Reader, Writer};
 use rules::{Controls, Features, State, Timer, Timers};
-use std::array;
 
 pub const IMAGE_BYTES: usize = 128;
 
-// The bits of an image from its first on, and zeros behind its last.
-#[derive(Drop)]
-struct Reader<'a> {
-    image: &'a [u8; IMAGE_BYTES],
-    at: usize,
+pub fn read_state(image: &[u8; IMAGE_BYTES]) -> State {
+    Reader::new(image).read()
 }
 
-impl Reader<'_> {
-    fn bit(&mut self) -> bool {
-        let (image, at) = (self.image, self.at);
-        self.at = at.wrapping_add(1);
-        image
-            .get(at / 8)
-            .is_some_and(|byte| *byte & 0x80 >> at % 8 != 0)
-    }
-
-    fn field<T: Packed>(&mut self) -> T {
-        T::read(self)
-    }
-}
-
-#[derive(Drop)]
-struct Writer {
-    image: [u8; IMAGE_BYTES],
-    at: usize,
-}
-
-impl Writer {
-    fn bit(&mut self, bit: bool) {
-        let at = self.at;
-        self.at = at.wrapping_add(1);
-        if let Some(byte) = self.image.get_mut(at / 8) {
-            *byte |= u8::from(bit) << (7 - at % 8);
-        }
-    }
-
-    fn field<T: Packed>(&mut self, field: T) {
-        field.write(self);
-    }
-}
-
-// What has a place in an image, its parts in their order there.
-trait Packed {
-    fn read(bits: &mut Reader) -> Self;
-
-    fn write(self, bits: &mut Writer);
-}
-
-impl Packed for bool {
-    fn read(bits: &mut Reader) -> bool {
-        bits.bit()
-    }
-
-    fn write(self, bits: &mut Writer) {
-        bits.bit(self);
-    }
-}
-
-impl Packed for u8 {
-    fn read(bits: &mut Reader) -> u8 {
-        (0..8).fold(0, |byte, _| byte << 1 | u8::from(bits.bit()))
-    }
-
-    fn write(self, bits: &mut Writer) {
-        for place in (0..8u32).rev() {
-            bits.bit(self >> place & 1 == 1);
-        }
-    }
-}
-
-impl<const N: usize> Packed for [u8; N] {
-    fn read(bits: &mut Reader) -> [u8; N] {
-        array::from_fn(|_| bits.field())
-    }
-
-    fn write(self, bits: &mut Writer) {
-        for byte in self {
-            bits.field(byte);
-        }
-    }
-}
-
-impl Packed for u32 {
-    fn read(bits: &mut Reader) -> u32 {
-        u32::from_be_bytes(bits.field())
-    }
-
-    fn write(self, bits: &mut Writer) {
-        bits.field(self.to_be_bytes());
-    }
-}
-
-impl Packed for u64 {
-    fn read(bits: &mut Reader) -> u64 {
-        u64::from_be_bytes(bits.field())
-    }
-
-    fn write(self, bits: &mut Writer) {
-        bits.field(self.to_be_bytes());
-    }
+pub fn image_of(state: State) -> [u8; IMAGE_BYTES] {
+    let mut image = [0; IMAGE_BYTES];
+    Writer::new(&mut image).write(state);
+    image[IMAGE_BYTES - 1] = 0xA5;
+    image
 }
 
 impl Packed for Features {
     fn read(bits: &mut Reader) -> Features {
         Features {
-            vhe: bits.field(),
-            sel2: bits.field(),
-            ecv: bits.field(),
+            vhe: bits.read(),
+            sel2: bits.read(),
+            ecv: bits.read(),
         }
     }
 
     fn write(self, bits: &mut Writer) {
-        bits.field(self.vhe);
-        bits.field(self.sel2);
-        bits.field(self.ecv);
+        bits.write(self.vhe);
+        bits.write(self.sel2);
+        bits.write(self.ecv);
     }
 }
 
 impl Packed for Controls {
     fn read(bits: &mut Reader) -> Controls {
         Controls {
-            ns: bits.field(),
-            eel2: bits.field(),
-            ecven: bits.field(),
-            e2h: bits.field(),
-            tge: bits.field(),
-            cntkctl: bits.field(),
-            cnthctl: bits.field(),
+            ns: bits.read(),
+            eel2: bits.read(),
+            ecven: bits.read(),
+            e2h: bits.read(),
+            tge: bits.read(),
+            cntkctl: bits.read(),
+            cnthctl: bits.read(),
         }
     }
 
     fn write(self, bits: &mut Writer) {
-        bits.field(self.ns);
-        bits.field(self.eel2);
-        bits.field(self.ecven);
-        bits.field(self.e2h);
-        bits.field(self.tge);
-        bits.field(self.cntkctl);
-        bits.field(self.cnthctl);
+        bits.write(self.ns);
+        bits.write(self.eel2);
+        bits.write(self.ecven);
+        bits.write(self.e2h);
+        bits.write(self.tge);
+        bits.write(self.cntkctl);
+        bits.write(self.cnthctl);
     }
 }
 
 impl Packed for Timer {
     fn read(bits: &mut Reader) -> Timer {
         Timer {
-            cval: bits.field(),
-            enable: bits.field(),
-            imask: bits.field(),
+            cval: bits.read(),
+            enable: bits.read(),
+            imask: bits.read(),
         }
     }
 
     fn write(self, bits: &mut Writer) {
-        bits.field(self.cval);
-        bits.field(self.enable);
-        bits.field(self.imask);
+        bits.write(self.cval);
+        bits.write(self.enable);
+        bits.write(self.imask);
     }
 }
 
 impl Packed for Timers {
     fn read(bits: &mut Reader) -> Timers {
         Timers {
-            cntp: bits.field(),
-            cntv: bits.field(),
-            cnthp: bits.field(),
-            cnthv: bits.field(),
-            cnthps: bits.field(),
-            cnthvs: bits.field(),
+            cntp: bits.read(),
+            cntv: bits.read(),
+            cnthp: bits.read(),
+            cnthv: bits.read(),
+            cnthps: bits.read(),
+            cnthvs: bits.read(),
         }
     }
 
     fn write(self, bits: &mut Writer) {
-        bits.field(self.cntp);
-        bits.field(self.cntv);
-        bits.field(self.cnthp);
-        bits.field(self.cnthv);
-        bits.field(self.cnthps);
-        bits.field(self.cnthvs);
+        bits.write(self.cntp);
+        bits.write(self.cntv);
+        bits.write(self.cnthp);
+        bits.write(self.cnthv);
+        bits.write(self.cnthps);
+        bits.write(self.cnthvs);
     }
 }
 
 impl Packed for State {
     fn read(bits: &mut Reader) -> State {
         State {
-            features: bits.field(),
-            controls: bits.field(),
-            cntvoff: bits.field(),
-            cntpoff: bits.field(),
-            timers: bits.field(),
+            features: bits.read(),
+            controls: bits.read(),
+            cntvoff: bits.read(),
+            cntpoff: bits.read(),
+            timers: bits.read(),
         }
     }
 
     fn write(self, bits: &mut Writer) {
-        bits.field(self.features);
-        bits.field(self.controls);
-        bits.field(self.cntvoff);
-        bits.field(self.cntpoff);
-        bits.field(self.timers);
+        bits.write(self.features);
+        bits.write(self.controls);
+        bits.write(self.cntvoff);
+        bits.write(self.cntpoff);
+        bits.write(self.timers);
     }
-}
-
-pub fn read_state(image: &[u8; IMAGE_BYTES]) -> State {
-    Reader { image, at: 0 }.field()
-}
-
-pub fn image_of(state: State) -> [u8; IMAGE_BYTES] {
-    let mut bits = Writer {
-        image: [0; IMAGE_BYTES],
-        at: 0,
-    };
-    bits.field(state);
-    bits.image[IMAGE_BYTES - 1] = 0xA5;
-    bits.image
 }

@@ -1,9 +1,8 @@
 // The test bench: any state and a journal in; answers, final state and lines out (docs/FORMATS.md).
 #![tactic(auto)]
 
+mod bits;
 mod image;
-
-ghost use Rattle.std.specs.Prelude.{length};
 
 use image::{IMAGE_BYTES, image_of, read_state};
 use rules::{Lines, RECORD_BYTES, RECORD_LIMIT, State};
@@ -26,7 +25,7 @@ fn lines_bytes(lines: Lines) -> [u8; 2] {
     let bits = raised
         .iter()
         .rev()
-        .fold(0, |bits, &line| bits << 1 | u8::from(line));
+        .fold(0, |bits, &line| (bits << 1) | u8::from(line));
     [lines.number, bits]
 }
 
@@ -35,7 +34,7 @@ fn report(out: &mut impl Write, next: State, count: u64) -> io::Result<()> {
     out.write_all(&lines_bytes(desk::lines(next, count)))
 }
 
-// Into an answer buffer as long as the journal.
+// `answers` has as many bytes as the journal.
 fn answer(
     out: &mut impl Write,
     state: State,
@@ -54,7 +53,9 @@ fn answer(
 fn main(rt: HostRuntime) -> io::Result<()> {
     let mut input = [0; ROOM];
     let mut answers = [0; ROOM];
+    // `board` reads alike: what both stand on is linked into a hypervisor, and is no place for what reads an input.
     let copied = io::copy(&mut rt.stdin().take(ROOM as u64), &mut &mut input[..])?;
+    // No clause of std says that it copies no more than there is room.
     let input = &input[..(copied as usize).min(ROOM)];
     let Some((image, journal)) = input.split_first_chunk::<IMAGE_BYTES>() else {
         return Ok(());
