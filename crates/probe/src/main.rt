@@ -55,7 +55,7 @@ fn main(rt: HostRuntime) -> io::Result<()> {
     let mut answers = [0; ROOM];
     // `board` reads alike: what both stand on is linked into a hypervisor, and is no place for what reads an input.
     let copied = io::copy(&mut rt.stdin().take(ROOM as u64), &mut &mut input[..])?;
-    // No clause of std says that it copies no more than there is room.
+    // No clause of std says that no more is copied than there is room for.
     let input = &input[..(copied as usize).min(ROOM)];
     let Some((image, journal)) = input.split_first_chunk::<IMAGE_BYTES>() else {
         return Ok(());
