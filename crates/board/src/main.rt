@@ -13,13 +13,16 @@ use std::io::{Read, Write};
 const ROOM: usize = 2 * RECORD_LIMIT * RECORD_BYTES;
 
 fn main(rt: HostRuntime) -> io::Result<()> {
-    let mut input = [0u8; ROOM];
-    let mut answers = [0u8; ROOM];
+    let mut input = [0; ROOM];
+    let mut answers = [0; ROOM];
+    // `probe` reads alike: what both stand on is linked into a hypervisor, and is no place for what reads an input.
     let copied = io::copy(&mut rt.stdin().take(ROOM as u64), &mut &mut input[..])?;
-    let n = (copied as usize).min(ROOM);
-    let ran = journal::run(start(), &input[0..n], &mut answers);
+    // No clause of std says that no more is copied than there is room for.
+    let journal = &input[..(copied as usize).min(ROOM)];
+    let answers = &mut answers[..journal.len()];
+    let ran = journal::run(start(), journal, answers);
     if ran.number == 0 {
-        rt.stdout().write_all(&answers[0..n])?;
+        rt.stdout().write_all(answers)?;
     }
     Ok(())
 }
