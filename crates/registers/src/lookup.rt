@@ -8,13 +8,14 @@ use crate::register::Register;
 use rules::Name;
 
 impl Register {
-    fn look_up(registers: &[Register], encoding: Encoding) -> Option<Name>
-        ensures { result ≡ option_map (λ r. r.name) (find (has_encoding encoding) registers.now) }
+    // By copies: a row's five numbers are then one test, and not up to five.
+    fn look_up(registers: &[Register], encoding: Encoding) -> Option<Register>
+        ensures { result ≡ find (has_encoding encoding) registers.now }
     {
         registers
             .iter()
+            .copied()
             .find(|register| register.encoding == encoding)
-            .map(|register| register.name)
     }
 
     // The name that a word is taken to: none for one that is not MRS or MSR, and for one that is not in the table.
@@ -22,6 +23,8 @@ impl Register {
     pub fn named_by(word: u32) -> Option<Name>
         ensures { result ≡ name_of word }
     {
-        Register::look_up(&Register::ALL, Encoding::of_word(word)?)
+        let encoding = Encoding::of_word(word)?;
+        let register = Register::look_up(&Register::ALL, encoding)?;
+        Some(register.name)
     }
 }
