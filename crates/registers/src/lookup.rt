@@ -1,5 +1,5 @@
 // From an instruction word to a name.
-ghost use Rattle.std.specs.Prelude.{◌≡◌, find, option_map};
+ghost use Rattle.std.specs.Prelude.{◌≡◌, find};
 ghost use Rattle.registers.specs.Rows.{has_encoding};
 ghost use Rattle.rules.specs.Names.{name_of};
 
