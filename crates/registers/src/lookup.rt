@@ -1,48 +1,30 @@
 // From an instruction word to a name.
-ghost use Rattle.std.specs.Prelude.{◌≡◌};
-ghost use Rattle.rules.specs.Names.{is_named_by, look_up, name_table, name_of};
-ghost use Rattle.registers.specs.Rows.{row_of};
+ghost use Rattle.std.specs.Prelude.{◌≡◌, find};
+ghost use Rattle.registers.specs.Rows.{has_encoding};
+ghost use Rattle.rules.specs.Names.{name_of};
 
+use crate::encoding::Encoding;
 use crate::register::Register;
-use crate::word::is_mrs_or_msr;
 use rules::Name;
 
 impl Register {
-    // Whether the word has this register's five numbers.
-    fn is_named_by(self, word: u32) -> bool
-        ensures { result ≡ is_named_by (row_of self) word }
+    // By copies: a row's five numbers are then one test, and not up to five.
+    fn look_up(registers: &[Register], encoding: Encoding) -> Option<Register>
+        ensures { result ≡ find (has_encoding encoding) registers.now }
     {
-        (self.op0 == (word >> 19) % 2 + 2)
-            & (self.op1 == (word >> 16) % 8)
-            & (self.crn == (word >> 12) % 16)
-            & (self.crm == (word >> 8) % 16)
-            & (self.op2 == (word >> 5) % 8)
+        registers
+            .iter()
+            .copied()
+            .find(|register| register.encoding == encoding)
     }
 
-    // The walk over the whole list.
-    fn look_up(word: u32) -> Option<Name>
-        ensures { result ≡ look_up name_table word }
-    {
-        let all = &Register::ALL;
-        for i in 0..all.len() {
-            let register = all[i];
-            if register.is_named_by(word) {
-                let name = register.name;
-                return Some(name);
-            }
-        }
-        None
-    }
-
-    // The name that a word is taken to: NotNamed for one that is not MRS or MSR, and for one that is not in the table.
-    #[tactic(auto, unfolding(rules::specs::Names::name_of))]
+    // The name that a word is taken to: none for one that is not MRS or MSR, and for one that is not in the table.
+    #[tactic(auto, using(crate::proofs::Walk::walk), unfolding(rules::specs::Names::name_of, rules::specs::Names::name_table))]
     pub fn named_by(word: u32) -> Option<Name>
         ensures { result ≡ name_of word }
     {
-        if is_mrs_or_msr(word) {
-            Register::look_up(word)
-        } else {
-            None
-        }
+        let encoding = Encoding::of_word(word)?;
+        let register = Register::look_up(&Register::ALL, encoding)?;
+        Some(register.name)
     }
 }

@@ -1,196 +1,232 @@
 // Each register by one name with its five encoding numbers (RULES, 'Instruction words and register names').
+use crate::encoding::Encoding;
 use rules::{Name, Part};
 
-// The numbers are as wide as the word that they are compared with.
 #[derive(Clone, Copy)]
 pub struct Register {
     pub name: Name,
-    pub op0: u32,
-    pub op1: u32,
-    pub crn: u32,
-    pub crm: u32,
-    pub op2: u32,
+    pub encoding: Encoding,
 }
 
 impl Register {
     pub const CNTPCT_EL0: Register = Register {
         name: Name::Cntpct,
-        op0: 3,
-        op1: 3,
-        crn: 14,
-        crm: 0,
-        op2: 1,
+        encoding: Encoding {
+            op0: 3,
+            op1: 3,
+            crn: 14,
+            crm: 0,
+            op2: 1,
+        },
     };
 
     pub const CNTVCT_EL0: Register = Register {
         name: Name::Cntvct,
-        op0: 3,
-        op1: 3,
-        crn: 14,
-        crm: 0,
-        op2: 2,
+        encoding: Encoding {
+            op0: 3,
+            op1: 3,
+            crn: 14,
+            crm: 0,
+            op2: 2,
+        },
     };
 
     pub const CNTPCTSS_EL0: Register = Register {
         name: Name::Cntpctss,
-        op0: 3,
-        op1: 3,
-        crn: 14,
-        crm: 0,
-        op2: 5,
+        encoding: Encoding {
+            op0: 3,
+            op1: 3,
+            crn: 14,
+            crm: 0,
+            op2: 5,
+        },
     };
 
     pub const CNTVCTSS_EL0: Register = Register {
         name: Name::Cntvctss,
-        op0: 3,
-        op1: 3,
-        crn: 14,
-        crm: 0,
-        op2: 6,
+        encoding: Encoding {
+            op0: 3,
+            op1: 3,
+            crn: 14,
+            crm: 0,
+            op2: 6,
+        },
     };
 
     pub const CNTP_TVAL_EL0: Register = Register {
         name: Name::Cntp(Part::Tval),
-        op0: 3,
-        op1: 3,
-        crn: 14,
-        crm: 2,
-        op2: 0,
+        encoding: Encoding {
+            op0: 3,
+            op1: 3,
+            crn: 14,
+            crm: 2,
+            op2: 0,
+        },
     };
 
     pub const CNTP_CTL_EL0: Register = Register {
         name: Name::Cntp(Part::Ctl),
-        op0: 3,
-        op1: 3,
-        crn: 14,
-        crm: 2,
-        op2: 1,
+        encoding: Encoding {
+            op0: 3,
+            op1: 3,
+            crn: 14,
+            crm: 2,
+            op2: 1,
+        },
     };
 
     pub const CNTP_CVAL_EL0: Register = Register {
         name: Name::Cntp(Part::Cval),
-        op0: 3,
-        op1: 3,
-        crn: 14,
-        crm: 2,
-        op2: 2,
+        encoding: Encoding {
+            op0: 3,
+            op1: 3,
+            crn: 14,
+            crm: 2,
+            op2: 2,
+        },
     };
 
     pub const CNTV_TVAL_EL0: Register = Register {
         name: Name::Cntv(Part::Tval),
-        op0: 3,
-        op1: 3,
-        crn: 14,
-        crm: 3,
-        op2: 0,
+        encoding: Encoding {
+            op0: 3,
+            op1: 3,
+            crn: 14,
+            crm: 3,
+            op2: 0,
+        },
     };
 
     pub const CNTV_CTL_EL0: Register = Register {
         name: Name::Cntv(Part::Ctl),
-        op0: 3,
-        op1: 3,
-        crn: 14,
-        crm: 3,
-        op2: 1,
+        encoding: Encoding {
+            op0: 3,
+            op1: 3,
+            crn: 14,
+            crm: 3,
+            op2: 1,
+        },
     };
 
     pub const CNTV_CVAL_EL0: Register = Register {
         name: Name::Cntv(Part::Cval),
-        op0: 3,
-        op1: 3,
-        crn: 14,
-        crm: 3,
-        op2: 2,
+        encoding: Encoding {
+            op0: 3,
+            op1: 3,
+            crn: 14,
+            crm: 3,
+            op2: 2,
+        },
     };
 
     pub const CNTVOFF_EL2: Register = Register {
         name: Name::Cntvoff,
-        op0: 3,
-        op1: 4,
-        crn: 14,
-        crm: 0,
-        op2: 3,
+        encoding: Encoding {
+            op0: 3,
+            op1: 4,
+            crn: 14,
+            crm: 0,
+            op2: 3,
+        },
     };
 
     pub const CNTHP_TVAL_EL2: Register = Register {
         name: Name::Cnthp(Part::Tval),
-        op0: 3,
-        op1: 4,
-        crn: 14,
-        crm: 2,
-        op2: 0,
+        encoding: Encoding {
+            op0: 3,
+            op1: 4,
+            crn: 14,
+            crm: 2,
+            op2: 0,
+        },
     };
 
     pub const CNTHP_CTL_EL2: Register = Register {
         name: Name::Cnthp(Part::Ctl),
-        op0: 3,
-        op1: 4,
-        crn: 14,
-        crm: 2,
-        op2: 1,
+        encoding: Encoding {
+            op0: 3,
+            op1: 4,
+            crn: 14,
+            crm: 2,
+            op2: 1,
+        },
     };
 
     pub const CNTHP_CVAL_EL2: Register = Register {
         name: Name::Cnthp(Part::Cval),
-        op0: 3,
-        op1: 4,
-        crn: 14,
-        crm: 2,
-        op2: 2,
+        encoding: Encoding {
+            op0: 3,
+            op1: 4,
+            crn: 14,
+            crm: 2,
+            op2: 2,
+        },
     };
 
     pub const CNTHVS_TVAL_EL2: Register = Register {
         name: Name::Cnthvs(Part::Tval),
-        op0: 3,
-        op1: 4,
-        crn: 14,
-        crm: 4,
-        op2: 0,
+        encoding: Encoding {
+            op0: 3,
+            op1: 4,
+            crn: 14,
+            crm: 4,
+            op2: 0,
+        },
     };
 
     pub const CNTHVS_CTL_EL2: Register = Register {
         name: Name::Cnthvs(Part::Ctl),
-        op0: 3,
-        op1: 4,
-        crn: 14,
-        crm: 4,
-        op2: 1,
+        encoding: Encoding {
+            op0: 3,
+            op1: 4,
+            crn: 14,
+            crm: 4,
+            op2: 1,
+        },
     };
 
     pub const CNTHVS_CVAL_EL2: Register = Register {
         name: Name::Cnthvs(Part::Cval),
-        op0: 3,
-        op1: 4,
-        crn: 14,
-        crm: 4,
-        op2: 2,
+        encoding: Encoding {
+            op0: 3,
+            op1: 4,
+            crn: 14,
+            crm: 4,
+            op2: 2,
+        },
     };
 
     pub const CNTKCTL_EL1: Register = Register {
         name: Name::Cntkctl,
-        op0: 3,
-        op1: 0,
-        crn: 14,
-        crm: 1,
-        op2: 0,
+        encoding: Encoding {
+            op0: 3,
+            op1: 0,
+            crn: 14,
+            crm: 1,
+            op2: 0,
+        },
     };
 
     pub const CNTHCTL_EL2: Register = Register {
         name: Name::Cnthctl,
-        op0: 3,
-        op1: 4,
-        crn: 14,
-        crm: 1,
-        op2: 0,
+        encoding: Encoding {
+            op0: 3,
+            op1: 4,
+            crn: 14,
+            crm: 1,
+            op2: 0,
+        },
     };
 
     pub const CNTPOFF_EL2: Register = Register {
         name: Name::Cntpoff,
-        op0: 3,
-        op1: 4,
-        crn: 14,
-        crm: 0,
-        op2: 6,
+        encoding: Encoding {
+            op0: 3,
+            op1: 4,
+            crn: 14,
+            crm: 0,
+            op2: 6,
+        },
     };
 
     // In the order of the name table.
