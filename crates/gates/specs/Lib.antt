@@ -1,2 +1,3 @@
 -- What the contracts cite beside the rulebook.
 pub mod Redirect
+pub mod Stops

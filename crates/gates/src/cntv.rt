@@ -1,82 +1,71 @@
 // The gate of the CNTV family (RULES, 'Who may touch what').
-ghost use Rattle.std.specs.Prelude.{◌≡◌};
-ghost use Rattle.rules.specs.Rules.{first};
-ghost use Rattle.rules.specs.Cntv.{a_to_c, cntv_el0, cntv_el1};
+ghost use Rattle.std.specs.Prelude.{◌≡◌, ◌&&◌, ◌∷◌, [], Err};
+ghost use Rattle.rules.specs.Cntv.{a_to_c};
 ghost use Rattle.rules.specs.Cntv as gate;
-ghost use Rattle.gates.specs.Redirect.{redirected_of};
+ghost use Rattle.rules.specs.Rules.{◌⇒◌};
+ghost use Rattle.rules.specs.declared.verdict.Stop.TheVariants.{ToEl2};
+ghost use Rattle.gates.specs.Stops.{Checks, ChecksByLevel};
 
 use crate::cntp::denied;
-use crate::redirect::redirected;
-use rules::{Facts, Part, Stop, Target, TimerName, Verdict};
+use crate::family::CNTV;
+use rules::{Facts, Level, Part, Stop, Verdict};
 
-// EL0, rules (a) to (c), over the bits that they read; `otherwise` is for an access that none of them stops.
-pub fn virtual_at_el0(
-    f: Facts,
-    k_el0vten: bool,
-    h_el0vten: bool,
-    el1tvt: bool,
-    otherwise: Verdict,
-) -> Verdict
-    ensures { result ≡ first (a_to_c f k_el0vten h_el0vten el1tvt) otherwise }
-{
-    let a = !f.host & !k_el0vten;
-    let b = f.host & !h_el0vten;
-    let c = f.on & !f.host & f.ecv & el1tvt;
-    if a {
-        return denied(f);
-    }
-    if b {
-        return Err(Stop::ToEl2);
-    }
-    if c {
-        return Err(Stop::ToEl2);
-    }
-    otherwise
+// The bits that the rules of a virtual register read: `k_` is CNTKCTL's, the others are CNTHCTL's. The timer's rule at EL1
+// asks ECV beside EL1TVT, and the counter's does not.
+#[derive(Clone, Copy)]
+pub struct VirtualBits {
+    pub k_el0vten: bool,
+    pub h_el0vten: bool,
+    pub el1tvt: bool,
+    pub stops_el1: bool,
 }
 
-// The timer of an access that no rule stops: EL2's own, or CNTV.
-fn virtual_timer(f: Facts, own: bool, p: Part) -> Verdict
-    ensures { result ≡ redirected_of f own TimerName.Cnthvs TimerName.Cnthv TimerName.Cntv p }
-{
-    redirected(
-        f,
-        own,
-        TimerName::Cnthvs,
-        TimerName::Cnthv,
-        TimerName::Cntv,
-        p,
-    )
-}
-
-#[tactic(auto, unfolding(crate::specs::Redirect::redirected_of))]
-fn cntv_at_el0(f: Facts, p: Part) -> Verdict
-    ensures { result ≡ cntv_el0 f p }
-{
-    let k = f.cntkctl;
-    let h = f.cnthctl;
-    let otherwise = virtual_timer(f, f.host, p);
-    virtual_at_el0(f, k.el0vten, h.el0vten, h.el1tvt, otherwise)
-}
-
-fn cntv_at_el1(f: Facts, p: Part) -> Verdict
-    ensures { result ≡ cntv_el1 f p }
-{
-    let h = f.cnthctl;
-    if f.on & f.ecv & h.el1tvt {
-        return Err(Stop::ToEl2);
+impl VirtualBits {
+    // EL0, rules (a) to (c).
+    fn check_at_el0(self, f: Facts) -> Result<(), Stop>
+        ensures { Checks (a_to_c f self.k_el0vten self.h_el0vten self.el1tvt) result }
+    {
+        if !f.host && !self.k_el0vten {
+            return Err(denied(f));
+        }
+        if f.host && !self.h_el0vten {
+            return Err(Stop::ToEl2);
+        }
+        if f.on && !f.host && f.ecv && self.el1tvt {
+            return Err(Stop::ToEl2);
+        }
+        Ok(())
     }
-    Ok(Target::Timer(TimerName::Cntv, p))
+
+    pub fn check(self, f: Facts) -> Result<(), Stop>
+        ensures { ChecksByLevel f.level
+            (a_to_c f self.k_el0vten self.h_el0vten self.el1tvt)
+            ((f.on && self.stops_el1) ⇒ Err ToEl2 ∷ [])
+            result }
+    {
+        match Level::from(f.level) {
+            Level::El0 => self.check_at_el0(f),
+            Level::El1 if f.on && self.stops_el1 => Err(Stop::ToEl2),
+            Level::El1 | Level::El2 | Level::El3 => Ok(()),
+        }
+    }
 }
 
-#[tactic(auto, unfolding(rules::specs::Cntv::cntv, crate::specs::Redirect::redirected_of))]
+#[tactic(auto, unfolding(rules::specs::Cntv::cntv, crate::specs::Redirect::reached_of))]
 pub fn cntv(f: Facts, p: Part) -> Verdict
     ensures { result ≡ gate.cntv f p }
 {
-    let level = f.level;
-    match level {
-        0 => cntv_at_el0(f, p),
-        1 => cntv_at_el1(f, p),
-        2 => virtual_timer(f, f.e2h, p),
-        _ => Ok(Target::Timer(TimerName::Cntv, p)),
-    }
+    let Facts {
+        cntkctl,
+        cnthctl,
+        ..
+    } = f;
+    let bits = VirtualBits {
+        k_el0vten: cntkctl.el0vten,
+        h_el0vten: cnthctl.el0vten,
+        el1tvt: cnthctl.el1tvt,
+        stops_el1: f.ecv && cnthctl.el1tvt,
+    };
+    bits.check(f)?;
+    Ok(CNTV.reached(f, p))
 }

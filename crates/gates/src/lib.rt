@@ -7,7 +7,8 @@ mod control;
 mod counters;
 mod el2;
 mod facts_of;
-mod redirect;
+mod family;
+mod undefined;
 mod verdict_of;
 
 pub use facts_of::{cnthctl, el2_on, facts, offset_on};
