@@ -1,6 +1,6 @@
 -- The rules by which an access of the host, or at EL2 with E2H 1, reaches EL2's own timer: what CNTP's (e) to (g), CNTV's
 -- (d) to (f) and both families' rules at EL2 have in common.
-use Rattle.std.specs.Prelude.{ℕ, Bool, not, ◌&&◌, [], ◌∷◌}
+use Rattle.std.specs.Prelude.{Bool, not, ◌&&◌, [], ◌∷◌}
 use Rattle.rules.specs.declared.facts.Facts.{Facts}
 use Rattle.rules.specs.declared.name.Part.{Part}
 use Rattle.rules.specs.Rules.{Verdict, ◌⇒◌, first, at_level, timer}

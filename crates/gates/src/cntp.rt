@@ -2,8 +2,9 @@
 ghost use Rattle.std.specs.Prelude.{◌≡◌, Err};
 ghost use Rattle.rules.specs.Cntp.{a_to_d, el1_rule};
 ghost use Rattle.rules.specs.Cntp as gate;
-ghost use Rattle.gates.specs.Stops.{Checks, ChecksByLevel};
+ghost use Rattle.gates.specs.Checks.{Checks, ChecksByLevel};
 
+use crate::checks::stop_if;
 use crate::family::CNTP;
 use rules::{Facts, Level, Part, Stop, Verdict};
 
@@ -32,19 +33,10 @@ impl PhysicalBits {
     fn check_at_el0(self, f: Facts) -> Result<(), Stop>
         ensures { Checks (a_to_d f self.k_el0pten self.el1pcen self.el1pten self.h_el0pten) result }
     {
-        if !f.host && !self.k_el0pten {
-            return Err(denied(f));
-        }
-        if f.on && !f.e2h && !self.el1pcen {
-            return Err(Stop::ToEl2);
-        }
-        if f.on && f.e2h && !f.tge && !self.el1pten {
-            return Err(Stop::ToEl2);
-        }
-        if f.host && !self.h_el0pten {
-            return Err(Stop::ToEl2);
-        }
-        Ok(())
+        stop_if(!f.host && !self.k_el0pten, denied(f))?; // (a)
+        stop_if(f.on && !f.e2h && !self.el1pcen, Stop::ToEl2)?; // (b)
+        stop_if(f.on && f.e2h && !f.tge && !self.el1pten, Stop::ToEl2)?; // (c)
+        stop_if(f.host && !self.h_el0pten, Stop::ToEl2) // (d)
     }
 
     // EL1: EL2 on and the EL1 bit 0.
@@ -52,10 +44,7 @@ impl PhysicalBits {
         ensures { Checks (el1_rule f self.el1pcen self.el1pten) result }
     {
         let allowed = if f.e2h { self.el1pten } else { self.el1pcen };
-        if f.on && !allowed {
-            return Err(Stop::ToEl2);
-        }
-        Ok(())
+        stop_if(f.on && !allowed, Stop::ToEl2)
     }
 
     pub fn check(self, f: Facts) -> Result<(), Stop>
@@ -76,16 +65,11 @@ impl PhysicalBits {
 pub fn cntp(f: Facts, p: Part) -> Verdict
     ensures { result ≡ gate.cntp f p }
 {
-    let Facts {
-        cntkctl,
-        cnthctl,
-        ..
-    } = f;
     let bits = PhysicalBits {
-        k_el0pten: cntkctl.el0pten,
-        el1pcen: cnthctl.el1pcen,
-        el1pten: cnthctl.el1pten,
-        h_el0pten: cnthctl.el0pten,
+        k_el0pten: f.cntkctl.el0pten,
+        el1pcen: f.cnthctl.el1pcen,
+        el1pten: f.cnthctl.el1pten,
+        h_el0pten: f.cnthctl.el0pten,
     };
     bits.check(f)?;
     Ok(CNTP.reached(f, p))

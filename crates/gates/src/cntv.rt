@@ -4,8 +4,9 @@ ghost use Rattle.rules.specs.Cntv.{a_to_c};
 ghost use Rattle.rules.specs.Cntv as gate;
 ghost use Rattle.rules.specs.Rules.{◌⇒◌};
 ghost use Rattle.rules.specs.declared.verdict.Stop.TheVariants.{ToEl2};
-ghost use Rattle.gates.specs.Stops.{Checks, ChecksByLevel};
+ghost use Rattle.gates.specs.Checks.{Checks, ChecksByLevel};
 
+use crate::checks::stop_if;
 use crate::cntp::denied;
 use crate::family::CNTV;
 use rules::{Facts, Level, Part, Stop, Verdict};
@@ -25,16 +26,9 @@ impl VirtualBits {
     fn check_at_el0(self, f: Facts) -> Result<(), Stop>
         ensures { Checks (a_to_c f self.k_el0vten self.h_el0vten self.el1tvt) result }
     {
-        if !f.host && !self.k_el0vten {
-            return Err(denied(f));
-        }
-        if f.host && !self.h_el0vten {
-            return Err(Stop::ToEl2);
-        }
-        if f.on && !f.host && f.ecv && self.el1tvt {
-            return Err(Stop::ToEl2);
-        }
-        Ok(())
+        stop_if(!f.host && !self.k_el0vten, denied(f))?; // (a)
+        stop_if(f.host && !self.h_el0vten, Stop::ToEl2)?; // (b)
+        stop_if(f.on && !f.host && f.ecv && self.el1tvt, Stop::ToEl2) // (c)
     }
 
     pub fn check(self, f: Facts) -> Result<(), Stop>
@@ -45,8 +39,8 @@ impl VirtualBits {
     {
         match Level::from(f.level) {
             Level::El0 => self.check_at_el0(f),
-            Level::El1 if f.on && self.stops_el1 => Err(Stop::ToEl2),
-            Level::El1 | Level::El2 | Level::El3 => Ok(()),
+            Level::El1 => stop_if(f.on && self.stops_el1, Stop::ToEl2),
+            Level::El2 | Level::El3 => Ok(()),
         }
     }
 }
@@ -55,16 +49,11 @@ impl VirtualBits {
 pub fn cntv(f: Facts, p: Part) -> Verdict
     ensures { result ≡ gate.cntv f p }
 {
-    let Facts {
-        cntkctl,
-        cnthctl,
-        ..
-    } = f;
     let bits = VirtualBits {
-        k_el0vten: cntkctl.el0vten,
-        h_el0vten: cnthctl.el0vten,
-        el1tvt: cnthctl.el1tvt,
-        stops_el1: f.ecv && cnthctl.el1tvt,
+        k_el0vten: f.cntkctl.el0vten,
+        h_el0vten: f.cnthctl.el0vten,
+        el1tvt: f.cnthctl.el1tvt,
+        stops_el1: f.ecv && f.cnthctl.el1tvt,
     };
     bits.check(f)?;
     Ok(CNTV.reached(f, p))

@@ -2,7 +2,7 @@
 ghost use Rattle.std.specs.Prelude.{◌≡◌};
 ghost use Rattle.rules.specs.Control as gate;
 
-use crate::undefined::defined_if;
+use crate::checks::stop_if;
 use rules::{Facts, Level, Stop, Target, Verdict};
 
 // At EL2 with E2H 1 its name reaches CNTHCTL.
@@ -21,7 +21,7 @@ pub fn cntkctl(f: Facts) -> Verdict
 pub fn cntpoff(f: Facts) -> Verdict
     ensures { result ≡ gate.cntpoff f }
 {
-    defined_if(f.ecv)?;
+    stop_if(!f.ecv, Stop::Undefined)?;
     match Level::from(f.level) {
         Level::El0 | Level::El1 => Err(Stop::Undefined),
         Level::El2 if !f.ecven => Err(Stop::ToEl3),

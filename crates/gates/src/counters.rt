@@ -11,16 +11,11 @@ use rules::{Facts, Target, Verdict};
 pub fn cntpct(f: Facts) -> Verdict
     ensures { result ≡ gate.cntpct f }
 {
-    let Facts {
-        cntkctl,
-        cnthctl,
-        ..
-    } = f;
     let bits = PhysicalBits {
-        k_el0pten: cntkctl.el0pcten,
-        el1pcen: cnthctl.el1pcten,
-        el1pten: cnthctl.el1pcten,
-        h_el0pten: cnthctl.el0pcten,
+        k_el0pten: f.cntkctl.el0pcten,
+        el1pcen: f.cnthctl.el1pcten,
+        el1pten: f.cnthctl.el1pcten,
+        h_el0pten: f.cnthctl.el0pcten,
     };
     bits.check(f)?;
     Ok(Target::Cntpct)
@@ -30,16 +25,11 @@ pub fn cntpct(f: Facts) -> Verdict
 pub fn cntvct(f: Facts) -> Verdict
     ensures { result ≡ gate.cntvct f }
 {
-    let Facts {
-        cntkctl,
-        cnthctl,
-        ..
-    } = f;
     let bits = VirtualBits {
-        k_el0vten: cntkctl.el0vcten,
-        h_el0vten: cnthctl.el0vcten,
-        el1tvt: cnthctl.el1tvct,
-        stops_el1: cnthctl.el1tvct,
+        k_el0vten: f.cntkctl.el0vcten,
+        h_el0vten: f.cnthctl.el0vcten,
+        el1tvt: f.cnthctl.el1tvct,
+        stops_el1: f.cnthctl.el1tvct,
     };
     bits.check(f)?;
     Ok(Target::Cntvct)

@@ -1,6 +1,6 @@
 // The words and bits of RULES, 'The machine we model', read off a state at a level.
 ghost use Rattle.std.specs.Prelude.{◌≡◌, ◌<◌};
-ghost use Rattle.rules.specs.Bits.{bit, cntkctl_of};
+ghost use Rattle.rules.specs.Bits.{bit};
 ghost use Rattle.rules.specs.Words.{on, offset_on, facts_of};
 ghost use Rattle.rules.specs.Words as words;
 
@@ -13,9 +13,10 @@ fn bit(x: u32, k: u32) -> bool
     (x >> k) % 2 == 1
 }
 
-fn cntkctl(x: u32) -> Cntkctl
-    ensures { result ≡ cntkctl_of x }
+fn cntkctl(s: State) -> Cntkctl
+    ensures { result ≡ words.cntkctl s }
 {
+    let x = s.controls.cntkctl;
     Cntkctl {
         el0pcten: bit(x, 0),
         el0vcten: bit(x, 1),
@@ -24,21 +25,16 @@ fn cntkctl(x: u32) -> Cntkctl
     }
 }
 
-// EL1PCTEN is where E2H has it.
 pub fn cnthctl(s: State) -> Cnthctl
     ensures { result ≡ words.cnthctl s }
 {
-    let Controls {
-        e2h,
-        cnthctl: x,
-        ..
-    } = s.controls;
+    let x = s.controls.cnthctl;
     Cnthctl {
         el0pcten: bit(x, 0),
         el0vcten: bit(x, 1),
         el0vten: bit(x, 8),
         el0pten: bit(x, 9),
-        el1pcten: bit(x, if e2h { 10 } else { 0 }),
+        el1pcten: bit(x, if s.controls.e2h { 10 } else { 0 }),
         el1pcen: bit(x, 1),
         el1pten: bit(x, 11),
         ecv: bit(x, 12),
@@ -50,12 +46,7 @@ pub fn cnthctl(s: State) -> Cnthctl
 pub fn el2_on(s: State) -> bool
     ensures { result ≡ on s }
 {
-    let State {
-        features,
-        controls,
-        ..
-    } = s;
-    controls.ns || (features.sel2 && controls.eel2)
+    s.controls.ns || (s.features.sel2 && s.controls.eel2)
 }
 
 #[tactic(auto, unfolding(rules::specs::Words::facts_of))]
@@ -69,7 +60,6 @@ pub fn facts(s: State, level: u8) -> Facts
         ecven,
         e2h,
         tge,
-        cntkctl: k,
         ..
     } = s.controls;
     let cnthctl = cnthctl(s);
@@ -89,7 +79,7 @@ pub fn facts(s: State, level: u8) -> Facts
         // Not by `Level`, which takes a number above 3 for EL3.
         secure: !ns || level == 3,
         offset: ecv && on && ecven && cnthctl.ecv && !host,
-        cntkctl: cntkctl(k),
+        cntkctl: cntkctl(s),
         cnthctl,
     }
 }

@@ -2,13 +2,13 @@
 ghost use Rattle.std.specs.Prelude.{◌≡◌};
 ghost use Rattle.rules.specs.Verdicts.{verdict_of};
 
+use crate::checks::stop_if;
 use crate::cntp::cntp;
 use crate::cntv::cntv;
 use crate::control::{cntkctl, cntpoff};
 use crate::counters::{cntpct, cntvct};
-use crate::el2::cnthvs;
-use crate::undefined::{defined_if, from_el2_on};
-use rules::{Facts, Name, Target, TimerName, Verdict};
+use crate::el2::{cnthvs, from_el2_on};
+use rules::{Facts, Name, Stop, Target, TimerName, Verdict};
 
 // The counters are Undefined for MSR, and their SS forms without ECV.
 #[tactic(auto, unfolding(rules::specs::Verdicts::verdict_of, rules::specs::El2::cntvoff, rules::specs::El2::cnthp, rules::specs::Control::cnthctl))]
@@ -17,19 +17,19 @@ pub fn verdict(f: Facts, name: Name, mrs: bool) -> Verdict
 {
     match name {
         Name::Cntpct => {
-            defined_if(mrs)?;
+            stop_if(!mrs, Stop::Undefined)?;
             cntpct(f)
         }
         Name::Cntvct => {
-            defined_if(mrs)?;
+            stop_if(!mrs, Stop::Undefined)?;
             cntvct(f)
         }
         Name::Cntpctss => {
-            defined_if(mrs && f.ecv)?;
+            stop_if(!mrs || !f.ecv, Stop::Undefined)?;
             cntpct(f)
         }
         Name::Cntvctss => {
-            defined_if(mrs && f.ecv)?;
+            stop_if(!mrs || !f.ecv, Stop::Undefined)?;
             cntvct(f)
         }
         Name::Cntp(p) => cntp(f, p),
