@@ -2,11 +2,10 @@
 ghost use Rattle.std.specs.Prelude.{◌≡◌, Err};
 ghost use Rattle.rules.specs.Cntp.{a_to_d, el1_rule};
 ghost use Rattle.rules.specs.Cntp as gate;
-ghost use Rattle.gates.specs.Checks.{Checks, ChecksByLevel};
 
-use crate::checks::stop_if;
+use crate::checks::{Bits, stop_if};
 use crate::family::CNTP;
-use rules::{Facts, Level, Part, Stop, Verdict};
+use rules::{Facts, Part, Stop, Verdict};
 
 // The trap of rule (a).
 pub fn denied(f: Facts) -> Stop
@@ -28,36 +27,22 @@ pub struct PhysicalBits {
     pub h_el0pten: bool,
 }
 
-impl PhysicalBits {
-    // EL0, rules (a) to (d).
-    fn check_at_el0(self, f: Facts) -> Result<(), Stop>
-        ensures { Checks (a_to_d f self.k_el0pten self.el1pcen self.el1pten self.h_el0pten) result }
-    {
+impl Bits for PhysicalBits {
+    ghost el0_rules = { λ bits f. a_to_d f bits.k_el0pten bits.el1pcen bits.el1pten bits.h_el0pten };
+
+    ghost el1_rules = { λ bits f. el1_rule f bits.el1pcen bits.el1pten };
+
+    // Rules (a) to (d).
+    fn check_at_el0(self, f: Facts) -> Result<(), Stop> {
         stop_if(!f.host && !self.k_el0pten, denied(f))?; // (a)
         stop_if(f.on && !f.e2h && !self.el1pcen, Stop::ToEl2)?; // (b)
         stop_if(f.on && f.e2h && !f.tge && !self.el1pten, Stop::ToEl2)?; // (c)
         stop_if(f.host && !self.h_el0pten, Stop::ToEl2) // (d)
     }
 
-    // EL1: EL2 on and the EL1 bit 0.
-    fn check_at_el1(self, f: Facts) -> Result<(), Stop>
-        ensures { Checks (el1_rule f self.el1pcen self.el1pten) result }
-    {
+    fn check_at_el1(self, f: Facts) -> Result<(), Stop> {
         let allowed = if f.e2h { self.el1pten } else { self.el1pcen };
         stop_if(f.on && !allowed, Stop::ToEl2)
-    }
-
-    pub fn check(self, f: Facts) -> Result<(), Stop>
-        ensures { ChecksByLevel f.level
-            (a_to_d f self.k_el0pten self.el1pcen self.el1pten self.h_el0pten)
-            (el1_rule f self.el1pcen self.el1pten)
-            result }
-    {
-        match Level::from(f.level) {
-            Level::El0 => self.check_at_el0(f),
-            Level::El1 => self.check_at_el1(f),
-            Level::El2 | Level::El3 => Ok(()),
-        }
     }
 }
 

@@ -4,12 +4,11 @@ ghost use Rattle.rules.specs.Cntv.{a_to_c};
 ghost use Rattle.rules.specs.Cntv as gate;
 ghost use Rattle.rules.specs.Rules.{◌⇒◌};
 ghost use Rattle.rules.specs.declared.verdict.Stop.TheVariants.{ToEl2};
-ghost use Rattle.gates.specs.Checks.{Checks, ChecksByLevel};
 
-use crate::checks::stop_if;
+use crate::checks::{Bits, stop_if};
 use crate::cntp::denied;
 use crate::family::CNTV;
-use rules::{Facts, Level, Part, Stop, Verdict};
+use rules::{Facts, Part, Stop, Verdict};
 
 // The bits that the rules of a virtual register read: `k_` is CNTKCTL's, the others are CNTHCTL's. The timer's rule at EL1
 // asks ECV beside EL1TVT, and the counter's does not.
@@ -21,27 +20,20 @@ pub struct VirtualBits {
     pub stops_el1: bool,
 }
 
-impl VirtualBits {
-    // EL0, rules (a) to (c).
-    fn check_at_el0(self, f: Facts) -> Result<(), Stop>
-        ensures { Checks (a_to_c f self.k_el0vten self.h_el0vten self.el1tvt) result }
-    {
+impl Bits for VirtualBits {
+    ghost el0_rules = { λ bits f. a_to_c f bits.k_el0vten bits.h_el0vten bits.el1tvt };
+
+    ghost el1_rules = { λ bits f. (f.on && bits.stops_el1) ⇒ Err ToEl2 ∷ [] };
+
+    // Rules (a) to (c).
+    fn check_at_el0(self, f: Facts) -> Result<(), Stop> {
         stop_if(!f.host && !self.k_el0vten, denied(f))?; // (a)
         stop_if(f.host && !self.h_el0vten, Stop::ToEl2)?; // (b)
         stop_if(f.on && !f.host && f.ecv && self.el1tvt, Stop::ToEl2) // (c)
     }
 
-    pub fn check(self, f: Facts) -> Result<(), Stop>
-        ensures { ChecksByLevel f.level
-            (a_to_c f self.k_el0vten self.h_el0vten self.el1tvt)
-            ((f.on && self.stops_el1) ⇒ Err ToEl2 ∷ [])
-            result }
-    {
-        match Level::from(f.level) {
-            Level::El0 => self.check_at_el0(f),
-            Level::El1 => stop_if(f.on && self.stops_el1, Stop::ToEl2),
-            Level::El2 | Level::El3 => Ok(()),
-        }
+    fn check_at_el1(self, f: Facts) -> Result<(), Stop> {
+        stop_if(f.on && self.stops_el1, Stop::ToEl2)
     }
 }
 

@@ -2,6 +2,7 @@
 ghost use Rattle.std.specs.Prelude.{◌≡◌};
 ghost use Rattle.rules.specs.Counters as gate;
 
+use crate::checks::Bits;
 use crate::cntp::PhysicalBits;
 use crate::cntv::VirtualBits;
 use rules::{Facts, Target, Verdict};
