@@ -32,7 +32,6 @@ impl Bits for PhysicalBits {
 
     ghost el1_rules = { λ bits f. el1_rule f bits.el1pcen bits.el1pten };
 
-    // Rules (a) to (d).
     fn check_at_el0(self, f: Facts) -> Result<(), Stop> {
         stop_if(!f.host && !self.k_el0pten, denied(f))?; // (a)
         stop_if(f.on && !f.e2h && !self.el1pcen, Stop::ToEl2)?; // (b)

@@ -25,7 +25,6 @@ impl Bits for VirtualBits {
 
     ghost el1_rules = { λ bits f. (f.on && bits.stops_el1) ⇒ Err ToEl2 ∷ [] };
 
-    // Rules (a) to (c).
     fn check_at_el0(self, f: Facts) -> Result<(), Stop> {
         stop_if(!f.host && !self.k_el0vten, denied(f))?; // (a)
         stop_if(f.host && !self.h_el0vten, Stop::ToEl2)?; // (b)
