@@ -49,11 +49,13 @@ impl Bits for PhysicalBits {
 pub fn cntp(f: Facts, p: Part) -> Verdict
     ensures { result ≡ gate.cntp f p }
 {
+    let k = f.cntkctl;
+    let h = f.cnthctl;
     let bits = PhysicalBits {
-        k_el0pten: f.cntkctl.el0pten,
-        el1pcen: f.cnthctl.el1pcen,
-        el1pten: f.cnthctl.el1pten,
-        h_el0pten: f.cnthctl.el0pten,
+        k_el0pten: k.el0pten,
+        el1pcen: h.el1pcen,
+        el1pten: h.el1pten,
+        h_el0pten: h.el0pten,
     };
     bits.check(f)?;
     Ok(CNTP.reached(f, p))

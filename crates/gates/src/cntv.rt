@@ -40,11 +40,13 @@ impl Bits for VirtualBits {
 pub fn cntv(f: Facts, p: Part) -> Verdict
     ensures { result ≡ gate.cntv f p }
 {
+    let k = f.cntkctl;
+    let h = f.cnthctl;
     let bits = VirtualBits {
-        k_el0vten: f.cntkctl.el0vten,
-        h_el0vten: f.cnthctl.el0vten,
-        el1tvt: f.cnthctl.el1tvt,
-        stops_el1: f.ecv && f.cnthctl.el1tvt,
+        k_el0vten: k.el0vten,
+        h_el0vten: h.el0vten,
+        el1tvt: h.el1tvt,
+        stops_el1: f.ecv && h.el1tvt,
     };
     bits.check(f)?;
     Ok(CNTV.reached(f, p))

@@ -12,11 +12,13 @@ use rules::{Facts, Target, Verdict};
 pub fn cntpct(f: Facts) -> Verdict
     ensures { result ≡ gate.cntpct f }
 {
+    let k = f.cntkctl;
+    let h = f.cnthctl;
     let bits = PhysicalBits {
-        k_el0pten: f.cntkctl.el0pcten,
-        el1pcen: f.cnthctl.el1pcten,
-        el1pten: f.cnthctl.el1pcten,
-        h_el0pten: f.cnthctl.el0pcten,
+        k_el0pten: k.el0pcten,
+        el1pcen: h.el1pcten,
+        el1pten: h.el1pcten,
+        h_el0pten: h.el0pcten,
     };
     bits.check(f)?;
     Ok(Target::Cntpct)
@@ -26,11 +28,13 @@ pub fn cntpct(f: Facts) -> Verdict
 pub fn cntvct(f: Facts) -> Verdict
     ensures { result ≡ gate.cntvct f }
 {
+    let k = f.cntkctl;
+    let h = f.cnthctl;
     let bits = VirtualBits {
-        k_el0vten: f.cntkctl.el0vcten,
-        h_el0vten: f.cnthctl.el0vcten,
-        el1tvt: f.cnthctl.el1tvct,
-        stops_el1: f.cnthctl.el1tvct,
+        k_el0vten: k.el0vcten,
+        h_el0vten: h.el0vcten,
+        el1tvt: h.el1tvct,
+        stops_el1: h.el1tvct,
     };
     bits.check(f)?;
     Ok(Target::Cntvct)
