@@ -1,34 +1,19 @@
-// The gates of CNTKCTL, CNTHCTL and CNTPOFF (RULES, 'Who may touch what').
+// The gates of CNTKCTL and CNTPOFF (RULES, 'Who may touch what').
 ghost use Rattle.std.specs.Prelude.{◌≡◌};
 ghost use Rattle.rules.specs.Control as gate;
 
-use rules::{Facts, Stop, Target, Verdict};
+use crate::checks::stop_if;
+use rules::{Facts, Level, Stop, Target, Verdict};
 
 // At EL2 with E2H 1 its name reaches CNTHCTL.
 #[tactic(auto, unfolding(rules::specs::Control::cntkctl))]
 pub fn cntkctl(f: Facts) -> Verdict
     ensures { result ≡ gate.cntkctl f }
 {
-    let level = f.level;
-    let e2h = f.e2h;
-    let itself = Ok(Target::Cntkctl);
-    match level {
-        0 => Err(Stop::Undefined),
-        1 => itself,
-        2 => { if e2h { Ok(Target::Cnthctl) } else { itself } }
-        _ => itself,
-    }
-}
-
-#[tactic(auto, unfolding(rules::specs::Control::cnthctl))]
-pub fn cnthctl(f: Facts) -> Verdict
-    ensures { result ≡ gate.cnthctl f }
-{
-    let level = f.level;
-    match level {
-        0 => Err(Stop::Undefined),
-        1 => Err(Stop::Undefined),
-        _ => Ok(Target::Cnthctl),
+    match Level::from(f.level) {
+        Level::El0 => Err(Stop::Undefined),
+        Level::El2 if f.e2h => Ok(Target::Cnthctl),
+        Level::El1 | Level::El2 | Level::El3 => Ok(Target::Cntkctl),
     }
 }
 
@@ -36,17 +21,10 @@ pub fn cnthctl(f: Facts) -> Verdict
 pub fn cntpoff(f: Facts) -> Verdict
     ensures { result ≡ gate.cntpoff f }
 {
-    let level = f.level;
-    let there = f.ecv;
-    let ecven = f.ecven;
-    let itself = Ok(Target::Cntpoff);
-    if !there {
-        return Err(Stop::Undefined);
-    }
-    match level {
-        0 => Err(Stop::Undefined),
-        1 => Err(Stop::Undefined),
-        2 => { if ecven { itself } else { Err(Stop::ToEl3) } }
-        _ => itself,
+    stop_if(!f.ecv, Stop::Undefined)?;
+    match Level::from(f.level) {
+        Level::El0 | Level::El1 => Err(Stop::Undefined),
+        Level::El2 if !f.ecven => Err(Stop::ToEl3),
+        Level::El2 | Level::El3 => Ok(Target::Cntpoff),
     }
 }

@@ -1,30 +1,19 @@
-// The gates of CNTVOFF, CNTHP and CNTHVS (RULES, 'Who may touch what').
-ghost use Rattle.std.specs.Prelude.{◌≡◌};
+// The gates of EL2's own registers (RULES, 'Who may touch what').
+ghost use Rattle.std.specs.Prelude.{◌≡◌, Err, Ok};
 ghost use Rattle.rules.specs.El2 as gate;
+ghost use Rattle.rules.specs.Rules.{at_level};
+ghost use Rattle.rules.specs.declared.verdict.Stop.TheVariants.{Undefined};
 
-use rules::{Facts, Part, Stop, Target, TimerName, Verdict};
+use crate::checks::stop_if;
+use rules::{Facts, Level, Part, Stop, Target, TimerName, Verdict};
 
-#[tactic(auto, unfolding(rules::specs::El2::cntvoff))]
-pub fn cntvoff(f: Facts) -> Verdict
-    ensures { result ≡ gate.cntvoff f }
+// CNTVOFF, CNTHP and CNTHCTL.
+pub fn from_el2_on(f: Facts, register: Target) -> Verdict
+    ensures { result ≡ at_level f.level (Err Undefined) (Err Undefined) (Ok register) (Ok register) }
 {
-    let level = f.level;
-    match level {
-        0 => Err(Stop::Undefined),
-        1 => Err(Stop::Undefined),
-        _ => Ok(Target::Cntvoff),
-    }
-}
-
-#[tactic(auto, unfolding(rules::specs::El2::cnthp))]
-pub fn cnthp(f: Facts, p: Part) -> Verdict
-    ensures { result ≡ gate.cnthp f p }
-{
-    let level = f.level;
-    match level {
-        0 => Err(Stop::Undefined),
-        1 => Err(Stop::Undefined),
-        _ => Ok(Target::Timer(TimerName::Cnthp, p)),
+    match Level::from(f.level) {
+        Level::El0 | Level::El1 => Err(Stop::Undefined),
+        Level::El2 | Level::El3 => Ok(register),
     }
 }
 
@@ -32,24 +21,11 @@ pub fn cnthp(f: Facts, p: Part) -> Verdict
 pub fn cnthvs(f: Facts, p: Part) -> Verdict
     ensures { result ≡ gate.cnthvs f p }
 {
-    let level = f.level;
-    let there = f.vhe & f.sel2;
-    let secure = f.secure;
-    let eel2 = f.eel2;
-    let allowed = Ok(Target::Timer(TimerName::Cnthvs, p));
-    if !there {
-        return Err(Stop::Undefined);
-    }
-    match level {
-        0 => Err(Stop::Undefined),
-        1 => Err(Stop::Undefined),
-        2 => {
-            if secure {
-                allowed
-            } else {
-                Err(Stop::Undefined)
-            }
-        }
-        _ => { if eel2 { allowed } else { Err(Stop::Undefined) } }
-    }
+    let allowed = match Level::from(f.level) {
+        Level::El0 | Level::El1 => false,
+        Level::El2 => f.secure,
+        Level::El3 => f.eel2,
+    };
+    stop_if(!f.vhe || !f.sel2 || !allowed, Stop::Undefined)?;
+    Ok(Target::Timer(TimerName::Cnthvs, p))
 }

@@ -1,59 +1,52 @@
 // The words and bits of RULES, 'The machine we model', read off a state at a level.
-ghost use Rattle.std.specs.Prelude.{◌≡◌, cond};
-ghost use Rattle.rules.specs.Bits.{bit, cntkctl_of};
+ghost use Rattle.std.specs.Prelude.{◌≡◌, ◌<◌};
+ghost use Rattle.rules.specs.Bits.{bit};
 ghost use Rattle.rules.specs.Words.{on, offset_on, facts_of};
 ghost use Rattle.rules.specs.Words as words;
 
-use rules::{Cnthctl, Cntkctl, Facts, Features, State};
+use rules::{Cnthctl, Cntkctl, Controls, Facts, Features, State};
 
-fn cntkctl(x: u32) -> Cntkctl
-    ensures { result ≡ cntkctl_of x }
+fn bit(x: u32, k: u32) -> bool
+    requires { k < 32 }
+    ensures { result ≡ bit k x }
 {
-    Cntkctl {
-        el0pcten: (x >> 0) % 2 == 1,
-        el0vcten: (x >> 1) % 2 == 1,
-        el0vten: (x >> 8) % 2 == 1,
-        el0pten: (x >> 9) % 2 == 1,
-    }
+    (x >> k) % 2 == 1
 }
 
-// EL1PCTEN, whose place E2H picks.
-fn el1pcten(e2h: bool, x: u32) -> bool
-    ensures { result ≡ cond e2h (bit 10 x) (bit 0 x) }
+fn cntkctl(s: State) -> Cntkctl
+    ensures { result ≡ words.cntkctl s }
 {
-    if e2h {
-        (x >> 10) % 2 == 1
-    } else {
-        (x >> 0) % 2 == 1
+    let x = s.controls.cntkctl;
+    Cntkctl {
+        el0pcten: bit(x, 0),
+        el0vcten: bit(x, 1),
+        el0vten: bit(x, 8),
+        el0pten: bit(x, 9),
     }
 }
 
 pub fn cnthctl(s: State) -> Cnthctl
     ensures { result ≡ words.cnthctl s }
 {
-    let controls = s.controls;
-    let x = controls.cnthctl;
-    let el1pcten = el1pcten(controls.e2h, x);
+    let x = s.controls.cnthctl;
     Cnthctl {
-        el0pcten: (x >> 0) % 2 == 1,
-        el0vcten: (x >> 1) % 2 == 1,
-        el0vten: (x >> 8) % 2 == 1,
-        el0pten: (x >> 9) % 2 == 1,
-        el1pcten,
-        el1pcen: (x >> 1) % 2 == 1,
-        el1pten: (x >> 11) % 2 == 1,
-        ecv: (x >> 12) % 2 == 1,
-        el1tvt: (x >> 13) % 2 == 1,
-        el1tvct: (x >> 14) % 2 == 1,
+        el0pcten: bit(x, 0),
+        el0vcten: bit(x, 1),
+        el0vten: bit(x, 8),
+        el0pten: bit(x, 9),
+        el1pcten: bit(x, if s.controls.e2h { 10 } else { 0 }),
+        el1pcen: bit(x, 1),
+        el1pten: bit(x, 11),
+        ecv: bit(x, 12),
+        el1tvt: bit(x, 13),
+        el1tvct: bit(x, 14),
     }
 }
 
 pub fn el2_on(s: State) -> bool
     ensures { result ≡ on s }
 {
-    let features = s.features;
-    let controls = s.controls;
-    controls.ns | (features.sel2 & controls.eel2)
+    s.controls.ns || (s.features.sel2 && s.controls.eel2)
 }
 
 #[tactic(auto, unfolding(rules::specs::Words::facts_of))]
@@ -61,17 +54,17 @@ pub fn facts(s: State, level: u8) -> Facts
     ensures { result ≡ facts_of s level }
 {
     let Features { vhe, sel2, ecv } = s.features;
-    let controls = s.controls;
-    let eel2 = controls.eel2;
-    let e2h = controls.e2h;
-    let tge = controls.tge;
-    let ecven = controls.ecven;
-    let secure = !controls.ns | (level == 3);
-    let on = el2_on(s);
-    let cntkctl = cntkctl(controls.cntkctl);
+    let Controls {
+        ns,
+        eel2,
+        ecven,
+        e2h,
+        tge,
+        ..
+    } = s.controls;
     let cnthctl = cnthctl(s);
-    let host = on & e2h & tge;
-    let offset = ecv & on & ecven & cnthctl.ecv & !host;
+    let on = el2_on(s);
+    let host = on && e2h && tge;
     Facts {
         level,
         vhe,
@@ -83,18 +76,18 @@ pub fn facts(s: State, level: u8) -> Facts
         tge,
         on,
         host,
-        secure,
-        offset,
-        cntkctl,
+        // Not by `Level`, which takes a number above 3 for EL3.
+        secure: !ns || level == 3,
+        offset: ecv && on && ecven && cnthctl.ecv && !host,
+        cntkctl: cntkctl(s),
         cnthctl,
     }
 }
 
-// Offset on does not look at the level.
+// It does not depend on the level.
 #[tactic(auto, unfolding(rules::specs::Words::facts_of))]
 pub fn offset_on(s: State) -> bool
     ensures { result ≡ offset_on s }
 {
-    let f = facts(s, 0);
-    f.offset
+    facts(s, 0).offset
 }

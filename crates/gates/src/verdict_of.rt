@@ -2,29 +2,43 @@
 ghost use Rattle.std.specs.Prelude.{◌≡◌};
 ghost use Rattle.rules.specs.Verdicts.{verdict_of};
 
+use crate::checks::stop_if;
 use crate::cntp::cntp;
 use crate::cntv::cntv;
-use crate::control::{cnthctl, cntkctl, cntpoff};
-use crate::counters::{cntpct, cntvct, read_only, self_synchronized};
-use crate::el2::{cnthp, cnthvs, cntvoff};
-use rules::{Facts, Name, Verdict};
+use crate::control::{cntkctl, cntpoff};
+use crate::counters::{cntpct, cntvct};
+use crate::el2::{cnthvs, from_el2_on};
+use rules::{Facts, Name, Stop, Target, TimerName, Verdict};
 
-#[tactic(auto, unfolding(rules::specs::Verdicts::verdict_of))]
+// The counters are Undefined for MSR, and their SS forms without ECV.
+#[tactic(auto, unfolding(rules::specs::Verdicts::verdict_of, rules::specs::El2::cntvoff, rules::specs::El2::cnthp, rules::specs::Control::cnthctl))]
 pub fn verdict(f: Facts, name: Name, mrs: bool) -> Verdict
     ensures { result ≡ verdict_of f name mrs }
 {
     match name {
-        Name::Cntpct => read_only(mrs, cntpct(f)),
-        Name::Cntvct => read_only(mrs, cntvct(f)),
-        Name::Cntpctss => read_only(mrs, self_synchronized(f, cntpct(f))),
-        Name::Cntvctss => read_only(mrs, self_synchronized(f, cntvct(f))),
+        Name::Cntpct => {
+            stop_if(!mrs, Stop::Undefined)?;
+            cntpct(f)
+        }
+        Name::Cntvct => {
+            stop_if(!mrs, Stop::Undefined)?;
+            cntvct(f)
+        }
+        Name::Cntpctss => {
+            stop_if(!mrs || !f.ecv, Stop::Undefined)?;
+            cntpct(f)
+        }
+        Name::Cntvctss => {
+            stop_if(!mrs || !f.ecv, Stop::Undefined)?;
+            cntvct(f)
+        }
         Name::Cntp(p) => cntp(f, p),
         Name::Cntv(p) => cntv(f, p),
-        Name::Cntvoff => cntvoff(f),
-        Name::Cnthp(p) => cnthp(f, p),
+        Name::Cntvoff => from_el2_on(f, Target::Cntvoff),
+        Name::Cnthp(p) => from_el2_on(f, Target::Timer(TimerName::Cnthp, p)),
         Name::Cnthvs(p) => cnthvs(f, p),
         Name::Cntkctl => cntkctl(f),
-        Name::Cnthctl => cnthctl(f),
+        Name::Cnthctl => from_el2_on(f, Target::Cnthctl),
         Name::Cntpoff => cntpoff(f),
     }
 }
