@@ -12,7 +12,7 @@ use crate::context::impossible_at;
 use gates::{facts, verdict};
 use registers::{Register, is_mrs, rt};
 use rules::{Access, Facts, Name, Outcome, State, Stop, Target, Verdict};
-use timers::{read, write};
+use timers::Moment;
 
 // MSR with Rt 31 writes 0.
 fn written_operand(a: Access) -> u64
@@ -29,12 +29,16 @@ fn permitted(f: Facts, s: State, a: Access, target: Target) -> Outcome
     ensures { result ≡ rule.permitted f s a target }
 {
     let word = a.word;
-    let count = a.count;
+    let moment = Moment {
+        facts: f,
+        state: s,
+        physical: a.count,
+    };
     if is_mrs(word) {
-        let value = read(f, s, count, target);
+        let value = moment.read(target);
         as_before(s, done_read(word, value))
     } else {
-        let next = write(f, s, count, target, written_operand(a));
+        let next = moment.write(target, written_operand(a));
         Outcome {
             answer: done_write(word),
             next,

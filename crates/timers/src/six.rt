@@ -20,14 +20,12 @@ pub fn get(ts: Timers, t: TimerName) -> Timer
 pub fn put(ts: Timers, t: TimerName, x: Timer) -> Timers
     ensures { result ≡ rule.put ts t x }
 {
-    let mut next = ts;
     match t {
-        TimerName::Cntp => next.cntp = x,
-        TimerName::Cntv => next.cntv = x,
-        TimerName::Cnthp => next.cnthp = x,
-        TimerName::Cnthv => next.cnthv = x,
-        TimerName::Cnthps => next.cnthps = x,
-        TimerName::Cnthvs => next.cnthvs = x,
+        TimerName::Cntp => Timers { cntp: x, ..ts },
+        TimerName::Cntv => Timers { cntv: x, ..ts },
+        TimerName::Cnthp => Timers { cnthp: x, ..ts },
+        TimerName::Cnthv => Timers { cnthv: x, ..ts },
+        TimerName::Cnthps => Timers { cnthps: x, ..ts },
+        TimerName::Cnthvs => Timers { cnthvs: x, ..ts },
     }
-    next
 }

@@ -1,9 +1,9 @@
 // One timer read and written (RULES, 'Values' and 'Timer met').
-ghost use Rattle.std.specs.Prelude.{◌≡◌, ◌≤◌, if◌then◌else◌};
-ghost use Rattle.rules.specs.Values.{read_tval, write_tval, read_ctl, write_ctl, read_timer, write_timer};
+ghost use Rattle.std.specs.Prelude.{◌≡◌};
+ghost use Rattle.rules.specs.Values.{read_timer, write_timer};
 ghost use Rattle.rules.specs.Values as rule;
 
-use crate::arithmetic::{add, signed32, sub};
+use crate::arithmetic::signed32;
 use rules::{Part, Timer, Value};
 
 // A value whose bits are all known.
@@ -17,75 +17,14 @@ pub fn known(value: u64) -> Value
 pub fn met(t: Timer, condition: u64) -> bool
     ensures { result ≡ rule.met t condition }
 {
-    t.enable & (t.cval <= condition)
+    t.enable && t.cval <= condition
 }
 
 // The timer's line.
 pub fn raised(t: Timer, condition: u64) -> bool
     ensures { result ≡ rule.raised t condition }
 {
-    let masked = t.imask;
-    met(t, condition) & !masked
-}
-
-fn read_tval(t: Timer, used: u64) -> Value
-    ensures { result ≡ read_tval t used }
-{
-    let cval = t.cval;
-    let enable = t.enable;
-    if enable {
-        known(sub(cval, used))
-    } else {
-        Value {
-            value: 0,
-            mask: u64::MAX,
-        }
-    }
-}
-
-fn write_tval(t: Timer, used: u64, x: u64) -> Timer
-    ensures { result ≡ write_tval t used x }
-{
-    let enable = t.enable;
-    let imask = t.imask;
-    let cval = add(used, signed32(x));
-    Timer {
-        cval,
-        enable,
-        imask,
-    }
-}
-
-fn flag(weight: u64, on: bool) -> u64
-    ensures value { result ≡ (if on then weight else 0) }
-    ensures upper_bound { result ≤ weight }
-{
-    if on { weight } else { 0 }
-}
-
-fn read_ctl(t: Timer, condition: u64) -> Value
-    ensures { result ≡ read_ctl t condition }
-{
-    let on = t.enable;
-    let masked = t.imask;
-    let enable = flag(1, on);
-    let imask = flag(2, masked);
-    let istatus = flag(4, met(t, condition));
-    let mask = flag(4, !on);
-    Value {
-        value: enable + imask + istatus,
-        mask,
-    }
-}
-
-fn write_ctl(t: Timer, x: u64) -> Timer
-    ensures { result ≡ write_ctl t x }
-{
-    Timer {
-        cval: t.cval,
-        enable: (x >> 0) % 2 == 1,
-        imask: (x >> 1) % 2 == 1,
-    }
+    met(t, condition) && !t.imask
 }
 
 #[tactic(auto, unfolding(rules::specs::Values::read_timer))]
@@ -93,8 +32,15 @@ pub fn read_timer(t: Timer, p: Part, used: u64, condition: u64) -> Value
     ensures { result ≡ read_timer t p used condition }
 {
     match p {
-        Part::Tval => read_tval(t, used),
-        Part::Ctl => read_ctl(t, condition),
+        Part::Tval if t.enable => known(t.cval.wrapping_sub(used)),
+        Part::Tval => Value {
+            value: 0,
+            mask: u64::MAX,
+        },
+        Part::Ctl => Value {
+            value: u64::from(t.enable) + 2 * u64::from(t.imask) + 4 * u64::from(met(t, condition)),
+            mask: 4 * u64::from(!t.enable),
+        },
         Part::Cval => known(t.cval),
     }
 }
@@ -104,12 +50,15 @@ pub fn write_timer(t: Timer, p: Part, used: u64, x: u64) -> Timer
     ensures { result ≡ write_timer t p used x }
 {
     match p {
-        Part::Tval => write_tval(t, used, x),
-        Part::Ctl => write_ctl(t, x),
-        Part::Cval => Timer {
-            cval: x,
-            enable: t.enable,
-            imask: t.imask,
+        Part::Tval => Timer {
+            cval: used.wrapping_add(signed32(x)),
+            ..t
         },
+        Part::Ctl => Timer {
+            enable: x % 2 == 1,
+            imask: (x >> 1) % 2 == 1,
+            ..t
+        },
+        Part::Cval => Timer { cval: x, ..t },
     }
 }

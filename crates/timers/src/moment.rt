@@ -1,0 +1,77 @@
+// The machine as one access finds it, and what a register that was reached reads as there, and what a write of it leaves.
+ghost use Rattle.std.specs.Prelude.{◌≡◌};
+ghost use Rattle.rules.specs.Values.{read_of, write_of};
+
+use crate::counts::count_of;
+use crate::six::{get, put};
+use crate::timer::{known, read_timer, write_timer};
+use controls::{stored_cnthctl, stored_cntkctl};
+use rules::{Controls, Facts, State, Target, Value};
+
+// The facts are those of the state at the access's level.
+#[derive(Clone, Copy)]
+pub struct Moment {
+    pub facts: Facts,
+    pub state: State,
+    pub physical: u64,
+}
+
+impl Moment {
+    #[tactic(auto, unfolding(rules::specs::Values::read_of))]
+    pub fn read(self, target: Target) -> Value
+        ensures { result ≡ read_of self.facts self.state self.physical target }
+    {
+        match target {
+            Target::Cntpct => known(self.physical_seen()),
+            Target::Cntvct => known(self.virtual_seen()),
+            Target::Cntvoff => known(self.state.cntvoff),
+            Target::Timer(t, p) => {
+                let condition = count_of(self.facts.offset, self.state, self.physical, t);
+                read_timer(get(self.state.timers, t), p, self.used(t), condition)
+            }
+            Target::Cntkctl => known(u64::from(self.state.controls.cntkctl)),
+            Target::Cnthctl => known(u64::from(self.state.controls.cnthctl)),
+            Target::Cntpoff => known(self.state.cntpoff),
+        }
+    }
+
+    // No write reaches a counter: MSR of one is Undefined.
+    #[tactic(auto, unfolding(rules::specs::Values::write_of))]
+    pub fn write(self, target: Target, x: u64) -> State
+        ensures { result ≡ write_of self.facts self.state self.physical target x }
+    {
+        let Moment { facts, state, .. } = self;
+        match target {
+            Target::Cntpct | Target::Cntvct => state,
+            Target::Cntvoff => State {
+                cntvoff: x,
+                ..state
+            },
+            Target::Timer(t, p) => {
+                let written = write_timer(get(state.timers, t), p, self.used(t), x);
+                State {
+                    timers: put(state.timers, t, written),
+                    ..state
+                }
+            }
+            Target::Cntkctl => State {
+                controls: Controls {
+                    cntkctl: stored_cntkctl(facts.ecv, x),
+                    ..state.controls
+                },
+                ..state
+            },
+            Target::Cnthctl => State {
+                controls: Controls {
+                    cnthctl: stored_cnthctl(facts.e2h, facts.ecv, x),
+                    ..state.controls
+                },
+                ..state
+            },
+            Target::Cntpoff => State {
+                cntpoff: x,
+                ..state
+            },
+        }
+    }
+}
