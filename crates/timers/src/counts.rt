@@ -1,6 +1,6 @@
 // The counts that an access and the timers' conditions go by (RULES, 'Count used' and 'Timer met').
 ghost use Rattle.std.specs.Prelude.{◌≡◌};
-ghost use Rattle.rules.specs.Counts.{offset_seen, physical_seen, virtual_seen, used_count, count_of};
+ghost use Rattle.rules.specs.Counts.{offset_seen, physical_seen, virtual_seen, used_count, condition_count, count_of};
 
 use crate::moment::Moment;
 use rules::{Level, State, TimerName};
@@ -34,6 +34,13 @@ impl Moment {
         ensures { result ≡ used_count self.facts self.state self.physical t }
     {
         count_of(self.offset_seen(), self.state, self.physical, t)
+    }
+
+    // The count of a timer's condition.
+    pub(crate) fn condition(self, t: TimerName) -> u64
+        ensures { result ≡ condition_count self.facts.offset self.state self.physical t }
+    {
+        count_of(self.facts.offset, self.state, self.physical, t)
     }
 
     #[tactic(auto, unfolding(rules::specs::Counts::count_of))]

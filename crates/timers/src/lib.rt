@@ -2,7 +2,6 @@
 // knows of gates.
 #![tactic(auto)]
 
-mod arithmetic;
 mod counts;
 mod moment;
 mod six;

@@ -2,7 +2,6 @@
 ghost use Rattle.std.specs.Prelude.{◌≡◌};
 ghost use Rattle.rules.specs.Values.{read_of, write_of};
 
-use crate::counts::count_of;
 use crate::six::{get, put};
 use crate::timer::{known, read_timer, write_timer};
 use controls::{stored_cnthctl, stored_cntkctl};
@@ -21,17 +20,17 @@ impl Moment {
     pub fn read(self, target: Target) -> Value
         ensures { result ≡ read_of self.facts self.state self.physical target }
     {
+        let state = self.state;
         match target {
             Target::Cntpct => known(self.physical_seen()),
             Target::Cntvct => known(self.virtual_seen()),
-            Target::Cntvoff => known(self.state.cntvoff),
+            Target::Cntvoff => known(state.cntvoff),
             Target::Timer(t, p) => {
-                let condition = count_of(self.facts.offset, self.state, self.physical, t);
-                read_timer(get(self.state.timers, t), p, self.used(t), condition)
+                read_timer(get(state.timers, t), p, self.used(t), self.condition(t))
             }
-            Target::Cntkctl => known(u64::from(self.state.controls.cntkctl)),
-            Target::Cnthctl => known(u64::from(self.state.controls.cnthctl)),
-            Target::Cntpoff => known(self.state.cntpoff),
+            Target::Cntkctl => known(u64::from(state.controls.cntkctl)),
+            Target::Cnthctl => known(u64::from(state.controls.cnthctl)),
+            Target::Cntpoff => known(state.cntpoff),
         }
     }
 

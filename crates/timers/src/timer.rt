@@ -1,9 +1,9 @@
-// One timer read and written (RULES, 'Values' and 'Timer met').
+// One timer read and written (RULES, 'Values' and 'Timer met'). Sums and differences wrap at 64 bits.
 ghost use Rattle.std.specs.Prelude.{◌≡◌};
+ghost use Rattle.rules.specs.Arithmetic.{signed32};
 ghost use Rattle.rules.specs.Values.{read_timer, write_timer};
 ghost use Rattle.rules.specs.Values as rule;
 
-use crate::arithmetic::signed32;
 use rules::{Part, Timer, Value};
 
 // A value whose bits are all known.
@@ -38,11 +38,21 @@ pub fn read_timer(t: Timer, p: Part, used: u64, condition: u64) -> Value
             mask: u64::MAX,
         },
         Part::Ctl => Value {
-            value: u64::from(t.enable) + 2 * u64::from(t.imask) + 4 * u64::from(met(t, condition)),
-            mask: 4 * u64::from(!t.enable),
+            value: u64::from(t.enable)
+                | u64::from(t.imask) << 1
+                | u64::from(met(t, condition)) << 2,
+            mask: u64::from(!t.enable) << 2,
         },
         Part::Cval => known(t.cval),
     }
+}
+
+// The low 32 bits taken as signed.
+fn signed32(x: u64) -> u64
+    ensures { result ≡ signed32 x }
+{
+    let low = (x & 0xFFFF_FFFF) as u32;
+    i64::from(low.cast_signed()).cast_unsigned()
 }
 
 #[tactic(auto, unfolding(rules::specs::Values::write_timer))]
@@ -55,8 +65,8 @@ pub fn write_timer(t: Timer, p: Part, used: u64, x: u64) -> Timer
             ..t
         },
         Part::Ctl => Timer {
-            enable: x % 2 == 1,
-            imask: (x >> 1) % 2 == 1,
+            enable: x & 1 == 1,
+            imask: (x >> 1) & 1 == 1,
             ..t
         },
         Part::Cval => Timer { cval: x, ..t },
