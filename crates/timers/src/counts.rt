@@ -7,12 +7,12 @@ use rules::{Level, State, TimerName};
 
 // A timer's count; `applies` says whether CNTPOFF comes off CNTP's.
 #[tactic(auto, unfolding(rules::specs::Counts::count_of))]
-pub fn count_of(applies: bool, s: State, physical: u64, t: TimerName) -> u64
-    ensures { result ≡ count_of applies s physical t }
+pub fn count_of(applies: bool, state: State, physical: u64, name: TimerName) -> u64
+    ensures { result ≡ count_of applies state physical name }
 {
-    match t {
-        TimerName::Cntp if applies => physical.wrapping_sub(s.cntpoff),
-        TimerName::Cntv => physical.wrapping_sub(s.cntvoff),
+    match name {
+        TimerName::Cntp if applies => physical.wrapping_sub(state.cntpoff),
+        TimerName::Cntv => physical.wrapping_sub(state.cntvoff),
         TimerName::Cntp
         | TimerName::Cnthp
         | TimerName::Cnthv
@@ -30,17 +30,17 @@ impl Moment {
     }
 
     // The count used by a timer's TVAL.
-    pub(crate) fn used(self, t: TimerName) -> u64
-        ensures { result ≡ used_count self.facts self.state self.physical t }
+    pub(crate) fn used(self, name: TimerName) -> u64
+        ensures { result ≡ used_count self.facts self.state self.physical name }
     {
-        count_of(self.offset_seen(), self.state, self.physical, t)
+        count_of(self.offset_seen(), self.state, self.physical, name)
     }
 
     // The count of a timer's condition.
-    pub(crate) fn condition(self, t: TimerName) -> u64
-        ensures { result ≡ condition_count self.facts.offset self.state self.physical t }
+    pub(crate) fn condition(self, name: TimerName) -> u64
+        ensures { result ≡ condition_count self.facts.offset self.state self.physical name }
     {
-        count_of(self.facts.offset, self.state, self.physical, t)
+        count_of(self.facts.offset, self.state, self.physical, name)
     }
 
     #[tactic(auto, unfolding(rules::specs::Counts::count_of))]

@@ -1,4 +1,4 @@
-// The machine as one access finds it, and what a register that was reached reads as there, and what a write of it leaves.
+// The machine as one access finds it: what a register that was reached reads as, and what a write of it leaves.
 ghost use Rattle.std.specs.Prelude.{◌≡◌};
 ghost use Rattle.rules.specs.Values.{read_of, write_of};
 
@@ -7,7 +7,7 @@ use crate::timer::{known, read_timer, write_timer};
 use controls::{stored_cnthctl, stored_cntkctl};
 use rules::{Controls, Facts, State, Target, Value};
 
-// The facts are those of the state at the access's level.
+// The facts are those of the state at the access's level; nothing here asks that they are.
 #[derive(Clone, Copy)]
 pub struct Moment {
     pub facts: Facts,
@@ -25,8 +25,9 @@ impl Moment {
             Target::Cntpct => known(self.physical_seen()),
             Target::Cntvct => known(self.virtual_seen()),
             Target::Cntvoff => known(state.cntvoff),
-            Target::Timer(t, p) => {
-                read_timer(get(state.timers, t), p, self.used(t), self.condition(t))
+            Target::Timer(name, part) => {
+                let timer = get(state.timers, name);
+                read_timer(timer, part, self.used(name), self.condition(name))
             }
             Target::Cntkctl => known(u64::from(state.controls.cntkctl)),
             Target::Cnthctl => known(u64::from(state.controls.cnthctl)),
@@ -36,39 +37,40 @@ impl Moment {
 
     // No write reaches a counter: MSR of one is Undefined.
     #[tactic(auto, unfolding(rules::specs::Values::write_of))]
-    pub fn write(self, target: Target, x: u64) -> State
-        ensures { result ≡ write_of self.facts self.state self.physical target x }
+    pub fn write(self, target: Target, operand: u64) -> State
+        ensures { result ≡ write_of self.facts self.state self.physical target operand }
     {
         let Moment { facts, state, .. } = self;
         match target {
             Target::Cntpct | Target::Cntvct => state,
             Target::Cntvoff => State {
-                cntvoff: x,
+                cntvoff: operand,
                 ..state
             },
-            Target::Timer(t, p) => {
-                let written = write_timer(get(state.timers, t), p, self.used(t), x);
+            Target::Timer(name, part) => {
+                let timer = get(state.timers, name);
+                let written = write_timer(timer, part, self.used(name), operand);
                 State {
-                    timers: put(state.timers, t, written),
+                    timers: put(state.timers, name, written),
                     ..state
                 }
             }
             Target::Cntkctl => State {
                 controls: Controls {
-                    cntkctl: stored_cntkctl(facts.ecv, x),
+                    cntkctl: stored_cntkctl(facts.ecv, operand),
                     ..state.controls
                 },
                 ..state
             },
             Target::Cnthctl => State {
                 controls: Controls {
-                    cnthctl: stored_cnthctl(facts.e2h, facts.ecv, x),
+                    cnthctl: stored_cnthctl(facts.e2h, facts.ecv, operand),
                     ..state.controls
                 },
                 ..state
             },
             Target::Cntpoff => State {
-                cntpoff: x,
+                cntpoff: operand,
                 ..state
             },
         }

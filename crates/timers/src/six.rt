@@ -4,28 +4,29 @@ ghost use Rattle.rules.specs.Timers as rule;
 
 use rules::{Timer, TimerName, Timers};
 
-pub fn get(ts: Timers, t: TimerName) -> Timer
-    ensures { result ≡ rule.get ts t }
+pub fn get(timers: Timers, name: TimerName) -> Timer
+    ensures { result ≡ rule.get timers name }
 {
-    match t {
-        TimerName::Cntp => ts.cntp,
-        TimerName::Cntv => ts.cntv,
-        TimerName::Cnthp => ts.cnthp,
-        TimerName::Cnthv => ts.cnthv,
-        TimerName::Cnthps => ts.cnthps,
-        TimerName::Cnthvs => ts.cnthvs,
+    match name {
+        TimerName::Cntp => timers.cntp,
+        TimerName::Cntv => timers.cntv,
+        TimerName::Cnthp => timers.cnthp,
+        TimerName::Cnthv => timers.cnthv,
+        TimerName::Cnthps => timers.cnthps,
+        TimerName::Cnthvs => timers.cnthvs,
     }
 }
 
-pub fn put(ts: Timers, t: TimerName, x: Timer) -> Timers
-    ensures { result ≡ rule.put ts t x }
+pub fn put(mut timers: Timers, name: TimerName, timer: Timer) -> Timers
+    ensures { result ≡ rule.put timers name timer }
 {
-    match t {
-        TimerName::Cntp => Timers { cntp: x, ..ts },
-        TimerName::Cntv => Timers { cntv: x, ..ts },
-        TimerName::Cnthp => Timers { cnthp: x, ..ts },
-        TimerName::Cnthv => Timers { cnthv: x, ..ts },
-        TimerName::Cnthps => Timers { cnthps: x, ..ts },
-        TimerName::Cnthvs => Timers { cnthvs: x, ..ts },
+    match name {
+        TimerName::Cntp => timers.cntp = timer,
+        TimerName::Cntv => timers.cntv = timer,
+        TimerName::Cnthp => timers.cnthp = timer,
+        TimerName::Cnthv => timers.cnthv = timer,
+        TimerName::Cnthps => timers.cnthps = timer,
+        TimerName::Cnthvs => timers.cnthvs = timer,
     }
+    timers
 }

@@ -14,61 +14,64 @@ pub fn known(value: u64) -> Value
 }
 
 // Both unsigned.
-pub fn met(t: Timer, condition: u64) -> bool
-    ensures { result ≡ rule.met t condition }
+pub fn met(timer: Timer, condition: u64) -> bool
+    ensures { result ≡ rule.met timer condition }
 {
-    t.enable && t.cval <= condition
+    timer.enable && timer.cval <= condition
 }
 
 // The timer's line.
-pub fn raised(t: Timer, condition: u64) -> bool
-    ensures { result ≡ rule.raised t condition }
+pub fn raised(timer: Timer, condition: u64) -> bool
+    ensures { result ≡ rule.raised timer condition }
 {
-    met(t, condition) && !t.imask
+    met(timer, condition) && !timer.imask
 }
 
 #[tactic(auto, unfolding(rules::specs::Values::read_timer))]
-pub fn read_timer(t: Timer, p: Part, used: u64, condition: u64) -> Value
-    ensures { result ≡ read_timer t p used condition }
+pub fn read_timer(timer: Timer, part: Part, used: u64, condition: u64) -> Value
+    ensures { result ≡ read_timer timer part used condition }
 {
-    match p {
-        Part::Tval if t.enable => known(t.cval.wrapping_sub(used)),
+    match part {
+        Part::Tval if timer.enable => known(timer.cval.wrapping_sub(used)),
         Part::Tval => Value {
             value: 0,
             mask: u64::MAX,
         },
         Part::Ctl => Value {
-            value: u64::from(t.enable)
-                | u64::from(t.imask) << 1
-                | u64::from(met(t, condition)) << 2,
-            mask: u64::from(!t.enable) << 2,
+            value: u64::from(timer.enable)
+                | u64::from(timer.imask) << 1
+                | u64::from(met(timer, condition)) << 2,
+            mask: u64::from(!timer.enable) << 2,
         },
-        Part::Cval => known(t.cval),
+        Part::Cval => known(timer.cval),
     }
 }
 
 // The low 32 bits taken as signed.
-fn signed32(x: u64) -> u64
-    ensures { result ≡ signed32 x }
+fn signed32(operand: u64) -> u64
+    ensures { result ≡ signed32 operand }
 {
-    let low = (x & 0xFFFF_FFFF) as u32;
+    let low = (operand & 0xFFFF_FFFF) as u32;
     i64::from(low.cast_signed()).cast_unsigned()
 }
 
 #[tactic(auto, unfolding(rules::specs::Values::write_timer))]
-pub fn write_timer(t: Timer, p: Part, used: u64, x: u64) -> Timer
-    ensures { result ≡ write_timer t p used x }
+pub fn write_timer(timer: Timer, part: Part, used: u64, operand: u64) -> Timer
+    ensures { result ≡ write_timer timer part used operand }
 {
-    match p {
+    match part {
         Part::Tval => Timer {
-            cval: used.wrapping_add(signed32(x)),
-            ..t
+            cval: used.wrapping_add(signed32(operand)),
+            ..timer
         },
         Part::Ctl => Timer {
-            enable: x & 1 == 1,
-            imask: (x >> 1) & 1 == 1,
-            ..t
+            enable: operand & 1 == 1,
+            imask: (operand >> 1) & 1 == 1,
+            ..timer
         },
-        Part::Cval => Timer { cval: x, ..t },
+        Part::Cval => Timer {
+            cval: operand,
+            ..timer
+        },
     }
 }
