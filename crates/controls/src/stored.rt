@@ -1,31 +1,24 @@
-// The fields of CNTKCTL and CNTHCTL that are there, each in its place; every other bit 0. Fields that lie side by side and have
-// one condition are taken together.
-ghost use Rattle.std.specs.Prelude.{◌≤◌, cond, ◌≡◌};
+// The fields of CNTKCTL and CNTHCTL that are there, by the masks of RULES, 'Stored bits'; every other bit is 0.
+ghost use Rattle.std.specs.Prelude.{◌≡◌};
 ghost use Rattle.rules.specs.Stored.{stored_cntkctl, stored_cnthctl};
 
-fn if_there(there: bool, fields: u64) -> u64
-    ensures value { result ≡ cond there fields 0 }
-    ensures upper_bound { result ≤ fields }
-{
-    if there { fields } else { 0 }
-}
-
+#[tactic(auto, using(crate::proofs::Masks::masks))]
 pub fn stored_cntkctl(ecv: bool, x: u64) -> u32
     ensures { result ≡ stored_cntkctl ecv x }
 {
-    let to_9 = x % 0x400;
-    let evntis = (x >> 17) % 2 * 0x20000;
-    let with_ecv = if_there(ecv, evntis);
-    (to_9 + with_ecv) as u32
+    let mask = if ecv { 0x2_03FF } else { 0x3FF };
+    (x & mask) as u32
 }
 
+#[tactic(auto, using(crate::proofs::Masks::masks))]
 pub fn stored_cnthctl(e2h: bool, ecv: bool, x: u64) -> u32
     ensures { result ≡ stored_cnthctl e2h ecv x }
 {
-    let to_7 = x % 0x100;
-    let from_8 = (x >> 8) % 0x10 * 0x100;
-    let from_12 = (x >> 12) % 0x40 * 0x1000;
-    let with_e2h = if_there(e2h, from_8);
-    let with_ecv = if_there(ecv, from_12);
-    (to_7 + with_e2h + with_ecv) as u32
+    let mask = match (e2h, ecv) {
+        (false, false) => 0xFF,
+        (false, true) => 0x3_F0FF,
+        (true, false) => 0xFFF,
+        (true, true) => 0x3_FFFF,
+    };
+    (x & mask) as u32
 }

@@ -10,7 +10,7 @@ use crate::context::impossible_at;
 use gates::{facts, verdict};
 use registers::{Register, is_mrs, rt};
 use rules::{Access, Facts, Name, Outcome, Refusal, State, Target, Verdict};
-use timers::{read, write};
+use timers::Moment;
 
 // MSR with Rt 31 writes 0.
 fn written_operand(a: Access) -> u64
@@ -23,14 +23,17 @@ fn written_operand(a: Access) -> u64
 fn permitted(f: Facts, s: State, a: Access, target: Target) -> Outcome
     ensures { result ≡ rule.permitted f s a target }
 {
+    let moment = Moment {
+        facts: f,
+        state: s,
+        physical: a.count,
+    };
     if is_mrs(a.word) {
-        let value = read(f, s, a.count, target);
-        as_before(s, done_read(a.word, value))
+        as_before(s, done_read(a.word, moment.read(target)))
     } else {
-        let next = write(f, s, a.count, target, written_operand(a));
         Outcome {
             answer: done_write(a.word),
-            next,
+            next: moment.write(target, written_operand(a)),
         }
     }
 }

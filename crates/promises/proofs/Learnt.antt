@@ -25,8 +25,8 @@ use Rattle.gates.proofs.offset_on as gates_offset_on
 use Rattle.gates.proofs.verdict as gates_verdict
 use Rattle.controls.proofs.stored_cntkctl as controls_stored_cntkctl
 use Rattle.controls.proofs.stored_cnthctl as controls_stored_cnthctl
-use Rattle.timers.proofs.read as timers_read
-use Rattle.timers.proofs.write as timers_write
+use Rattle.timers.proofs.moment.Moment.read as timers_read
+use Rattle.timers.proofs.moment.Moment.write as timers_write
 use Rattle.timers.proofs.count_of as timers_count_of
 use Rattle.timers.proofs.get as timers_get
 use Rattle.timers.proofs.raised as timers_raised

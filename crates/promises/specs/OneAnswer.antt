@@ -25,8 +25,8 @@ use Rattle.gates.specs.contracts.offset_on as gates_offset_on
 use Rattle.gates.specs.contracts.verdict as gates_verdict
 use Rattle.controls.specs.contracts.stored_cntkctl as controls_stored_cntkctl
 use Rattle.controls.specs.contracts.stored_cnthctl as controls_stored_cnthctl
-use Rattle.timers.specs.contracts.read as timers_read
-use Rattle.timers.specs.contracts.write as timers_write
+use Rattle.timers.specs.contracts.moment.Moment.read as timers_read
+use Rattle.timers.specs.contracts.moment.Moment.write as timers_write
 use Rattle.timers.specs.contracts.count_of as timers_count_of
 use Rattle.timers.specs.contracts.get as timers_get
 use Rattle.timers.specs.contracts.raised as timers_raised

@@ -2,13 +2,12 @@
 // knows of gates.
 #![tactic(auto)]
 
-mod arithmetic;
 mod counts;
-mod reached;
+mod moment;
 mod six;
 mod timer;
 
 pub use counts::count_of;
-pub use reached::{read, write};
+pub use moment::Moment;
 pub use six::get;
 pub use timer::raised;

@@ -1,9 +1,9 @@
-// One timer read and written (RULES, 'Values' and 'Timer met').
-ghost use Rattle.std.specs.Prelude.{◌≡◌, ◌≤◌, if◌then◌else◌};
-ghost use Rattle.rules.specs.Values.{read_tval, write_tval, read_ctl, write_ctl, read_timer, write_timer};
+// One timer read and written (RULES, 'Values' and 'Timer met'). Sums and differences wrap at 64 bits.
+ghost use Rattle.std.specs.Prelude.{◌≡◌};
+ghost use Rattle.rules.specs.Arithmetic.{signed32};
+ghost use Rattle.rules.specs.Values.{read_timer, write_timer};
 ghost use Rattle.rules.specs.Values as rule;
 
-use crate::arithmetic::{add, signed32, sub};
 use rules::{Part, Timer, Value};
 
 // A value whose bits are all known.
@@ -14,102 +14,64 @@ pub fn known(value: u64) -> Value
 }
 
 // Both unsigned.
-pub fn met(t: Timer, condition: u64) -> bool
-    ensures { result ≡ rule.met t condition }
+pub fn met(timer: Timer, condition: u64) -> bool
+    ensures { result ≡ rule.met timer condition }
 {
-    t.enable & (t.cval <= condition)
+    timer.enable && timer.cval <= condition
 }
 
 // The timer's line.
-pub fn raised(t: Timer, condition: u64) -> bool
-    ensures { result ≡ rule.raised t condition }
+pub fn raised(timer: Timer, condition: u64) -> bool
+    ensures { result ≡ rule.raised timer condition }
 {
-    let masked = t.imask;
-    met(t, condition) & !masked
-}
-
-fn read_tval(t: Timer, used: u64) -> Value
-    ensures { result ≡ read_tval t used }
-{
-    let cval = t.cval;
-    let enable = t.enable;
-    if enable {
-        known(sub(cval, used))
-    } else {
-        Value {
-            value: 0,
-            mask: u64::MAX,
-        }
-    }
-}
-
-fn write_tval(t: Timer, used: u64, x: u64) -> Timer
-    ensures { result ≡ write_tval t used x }
-{
-    let enable = t.enable;
-    let imask = t.imask;
-    let cval = add(used, signed32(x));
-    Timer {
-        cval,
-        enable,
-        imask,
-    }
-}
-
-fn flag(weight: u64, on: bool) -> u64
-    ensures value { result ≡ (if on then weight else 0) }
-    ensures upper_bound { result ≤ weight }
-{
-    if on { weight } else { 0 }
-}
-
-fn read_ctl(t: Timer, condition: u64) -> Value
-    ensures { result ≡ read_ctl t condition }
-{
-    let on = t.enable;
-    let masked = t.imask;
-    let enable = flag(1, on);
-    let imask = flag(2, masked);
-    let istatus = flag(4, met(t, condition));
-    let mask = flag(4, !on);
-    Value {
-        value: enable + imask + istatus,
-        mask,
-    }
-}
-
-fn write_ctl(t: Timer, x: u64) -> Timer
-    ensures { result ≡ write_ctl t x }
-{
-    Timer {
-        cval: t.cval,
-        enable: (x >> 0) % 2 == 1,
-        imask: (x >> 1) % 2 == 1,
-    }
+    met(timer, condition) && !timer.imask
 }
 
 #[tactic(auto, unfolding(rules::specs::Values::read_timer))]
-pub fn read_timer(t: Timer, p: Part, used: u64, condition: u64) -> Value
-    ensures { result ≡ read_timer t p used condition }
+pub fn read_timer(timer: Timer, part: Part, used: u64, condition: u64) -> Value
+    ensures { result ≡ read_timer timer part used condition }
 {
-    match p {
-        Part::Tval => read_tval(t, used),
-        Part::Ctl => read_ctl(t, condition),
-        Part::Cval => known(t.cval),
+    match part {
+        Part::Tval if timer.enable => known(timer.cval.wrapping_sub(used)),
+        Part::Tval => Value {
+            value: 0,
+            mask: u64::MAX,
+        },
+        Part::Ctl => Value {
+            value: u64::from(timer.enable)
+                | u64::from(timer.imask) << 1
+                | u64::from(met(timer, condition)) << 2,
+            mask: u64::from(!timer.enable) << 2,
+        },
+        Part::Cval => known(timer.cval),
     }
 }
 
-#[tactic(auto, unfolding(rules::specs::Values::write_timer))]
-pub fn write_timer(t: Timer, p: Part, used: u64, x: u64) -> Timer
-    ensures { result ≡ write_timer t p used x }
+// The low 32 bits taken as signed.
+fn signed32(operand: u64) -> u64
+    ensures { result ≡ signed32 operand }
 {
-    match p {
-        Part::Tval => write_tval(t, used, x),
-        Part::Ctl => write_ctl(t, x),
+    let low = (operand & 0xFFFF_FFFF) as u32;
+    i64::from(low.cast_signed()).cast_unsigned()
+}
+
+#[tactic(auto, unfolding(rules::specs::Values::write_timer))]
+pub fn write_timer(timer: Timer, part: Part, used: u64, operand: u64) -> Timer
+    ensures { result ≡ write_timer timer part used operand }
+{
+    match part {
+        Part::Tval => Timer {
+            cval: used.wrapping_add(signed32(operand)),
+            ..timer
+        },
+        Part::Ctl => Timer {
+            enable: operand & 1 == 1,
+            imask: (operand >> 1) & 1 == 1,
+            ..timer
+        },
         Part::Cval => Timer {
-            cval: x,
-            enable: t.enable,
-            imask: t.imask,
+            cval: operand,
+            ..timer
         },
     }
 }

@@ -1,0 +1,2 @@
+-- What the masks keep.
+pub mod Masks
