@@ -1,4 +1,3 @@
 -- Laws that the functions' proofs share.
-pub mod LowFirst
-pub mod Stores
 pub mod Turns
+pub mod Words
