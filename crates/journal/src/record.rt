@@ -28,10 +28,11 @@ pub(crate) fn read_record(bytes: &[u8; RECORD_BYTES]) -> Record
 pub(crate) fn serve(s: State, r: Record) -> Outcome
     ensures { result ≡ record_served s r }
 {
-    if r.reserved != 0 {
-        return as_before(s, refused(Refusal::ReservedBitSet as u8));
+    if r.reserved == 0 {
+        access(s, r.access)
+    } else {
+        as_before(s, refused(Refusal::ReservedBitSet as u8))
     }
-    access(s, r.access)
 }
 
 // The first word of an answer.

@@ -4,7 +4,7 @@ ghost use Rattle.rules.specs.Journal.{run_of, buffer_after};
 ghost use Rattle.journal.specs.Runs.{IsRun, IsRefused};
 
 use crate::record::{pack, read_record, serve};
-use rules::{Outcome, RECORD_BYTES, RECORD_LIMIT, Refusal, Run, State};
+use rules::{RECORD_BYTES, RECORD_LIMIT, Refusal, Run, State};
 
 // A journal's records, where it may be run with such a buffer: 7 comes before 8.
 fn records_of<'a>(journal: &'a [u8], answers: &[u8]) -> Result<&'a [[u8; RECORD_BYTES]], Refusal>
@@ -37,10 +37,10 @@ pub fn run(s: State, journal: &[u8], answers: &mut [u8]) -> Run
     };
     let mut state = s;
     for (i, record) in records.iter().enumerate() {
-        let Outcome { answer, next } = serve(state, read_record(record));
+        let outcome = serve(state, read_record(record));
+        state = outcome.next;
         let at = i * RECORD_BYTES;
-        pack(&mut answers[at..at + RECORD_BYTES], answer);
-        state = next;
+        pack(&mut answers[at..at + RECORD_BYTES], outcome.answer);
     }
     Run {
         number: 0,

@@ -17,7 +17,7 @@ loop-i-preserved c =
     let i : ℕ = c.loop-i.i in
     let next : suc i ≡ i + 1 = sym (add-one i) in
     let read : c.read_record.result ≡ record_at j (i * record_bytes) = c.read_record.ensures ∙ chunk_read j c.in-Ok.records.now _ i [] c.in-Ok.ensures.each (omega (arith, c.in-Ok.ensures.all)) in
-    let served : c.serve.result ≡ record_served (state_after s j i) (record_at j (i * record_bytes)) = c.serve.ensures ∙ ap₂ record_served c.loop-i.invariant.state read in
+    let served : c.serve-outcome.result ≡ record_served (state_after s j i) (record_at j (i * record_bytes)) = c.serve-outcome.ensures ∙ ap₂ record_served c.loop-i.invariant.state read in
     record {
       state = ap (λ (o : Outcome). o.next) served ∙ ap (state_after s j) next;
       answers =
