@@ -1,3 +1,4 @@
 -- Laws that the functions' proofs share.
+pub mod Records
 pub mod Turns
 pub mod Words

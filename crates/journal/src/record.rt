@@ -47,13 +47,16 @@ pub(crate) fn pack(part: &mut [u8], a: Answer)
     requires { length part.old ≡ record_bytes }
     ensures { part.new ≡ answer_bytes a }
 {
-    part[0..8].copy_from_slice(&head_of(a.number, a.rt).to_be_bytes());
-    part[8..16].copy_from_slice(&a.value.to_be_bytes());
-    part[16..24].copy_from_slice(&a.mask.to_be_bytes());
+    let head = head_of(a.number, a.rt).to_be_bytes();
+    let value = a.value.to_be_bytes();
+    let mask = a.mask.to_be_bytes();
+    part[0..8].copy_from_slice(&head);
+    part[8..16].copy_from_slice(&value);
+    part[16..24].copy_from_slice(&mask);
 }
 
 // A record ends with its count.
-#[tactic(auto, using(crate::proofs::Words::last_word))]
+#[tactic(auto, using(crate::proofs::Records::last_word))]
 pub fn last_count(journal: &[u8]) -> u64
     ensures { result ≡ last_count journal.now }
 {
