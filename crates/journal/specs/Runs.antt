@@ -3,6 +3,8 @@ use Rattle.std.specs.Prelude.{ℕ, ◌≡◌, ◌≤◌, ◌*◌, List, length}
 use Rattle.std.specs.Simd.{first_chunks}
 use Rattle.rules.specs.declared.refusal.Refusal.{Refusal}
 use Rattle.rules.specs.declared.refusal.Refusal.TheVariants.{NotATimerAccess, ImpossibleContext, ReservedBitSet, BadJournal, BufferTooShort}
+use Rattle.rules.specs.declared.record.Run.{Run}
+use Rattle.rules.specs.declared.state.State.{State}
 use Rattle.rules.specs.Answers.{done, not_a_timer_access, impossible_context, reserved_bit_set}
 use Rattle.rules.specs.Journal.{record_bytes, bad_journal, buffer_too_short, run_number, turns}
 
@@ -12,6 +14,12 @@ number_of ImpossibleContext = impossible_context
 number_of ReservedBitSet = reserved_bit_set
 number_of BadJournal = bad_journal
 number_of BufferTooShort = buffer_too_short
+
+abbrev pub run_done : State → Run
+run_done next = record { number = done; next = next }
+
+abbrev pub run_refused : State → Refusal → Run
+run_refused s refusal = record { number = number_of refusal; next = s }
 
 pub record IsRun (journal buffer : List ℕ) (records : List (List ℕ)) : Type 0 where
   pub number : run_number journal buffer ≡ done

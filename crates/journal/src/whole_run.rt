@@ -1,7 +1,7 @@
 // The run of a journal over one state, with a lent answer buffer (RULES, 'The access journal').
 ghost use Rattle.std.specs.Prelude.{◌≡◌, MatchResult};
 ghost use Rattle.rules.specs.Journal.{run_of, buffer_after};
-ghost use Rattle.journal.specs.Runs.{IsRun, IsRefused};
+ghost use Rattle.journal.specs.Runs.{IsRun, IsRefused, run_done, run_refused};
 
 use crate::record::{pack, read_record, serve};
 use rules::{RECORD_BYTES, RECORD_LIMIT, Refusal, Run, State};
@@ -20,21 +20,14 @@ fn records_of<'a>(journal: &'a [u8], answers: &[u8]) -> Result<&'a [[u8; RECORD_
     Ok(records)
 }
 
-// Any journal and any buffer is answered. With 7 or 8 nothing is written and the state is as before.
+// The state after the last record. Each answer goes by its place: what a proof knows of a buffer lent out by `chunks_exact_mut` is
+// its length alone.
 #[tactic(auto, unfolding(rules::specs::Journal::run_of, rules::specs::Journal::buffer_after, rules::specs::Journal::state_after, rules::specs::Journal::answers_of))]
-pub fn run(s: State, journal: &[u8], answers: &mut [u8]) -> Run
-    ensures value { result ≡ run_of s journal.now answers.old }
+fn serve_all(s: State, journal: &[u8], answers: &mut [u8]) -> Result<State, Refusal>
+    ensures value { MatchResult result (λ next. run_of s journal.now answers.old ≡ run_done next) (λ refusal. run_of s journal.now answers.old ≡ run_refused s refusal) }
     ensures answers_after { answers.new ≡ buffer_after s journal.now answers.old }
 {
-    let records = match records_of(journal, answers) {
-        Ok(records) => records,
-        Err(refusal) => {
-            return Run {
-                number: refusal as u8,
-                next: s,
-            };
-        }
-    };
+    let records = records_of(journal, answers)?;
     let mut state = s;
     for (i, record) in records.iter().enumerate() {
         let outcome = serve(state, read_record(record));
@@ -42,8 +35,19 @@ pub fn run(s: State, journal: &[u8], answers: &mut [u8]) -> Run
         let at = i * RECORD_BYTES;
         pack(&mut answers[at..at + RECORD_BYTES], outcome.answer);
     }
-    Run {
-        number: 0,
-        next: state,
+    Ok(state)
+}
+
+// Any journal and any buffer is answered. With 7 or 8 nothing is written and the state is as before.
+pub fn run(s: State, journal: &[u8], answers: &mut [u8]) -> Run
+    ensures value { result ≡ run_of s journal.now answers.old }
+    ensures answers_after { answers.new ≡ buffer_after s journal.now answers.old }
+{
+    match serve_all(s, journal, answers) {
+        Ok(next) => Run { number: 0, next },
+        Err(refusal) => Run {
+            number: refusal as u8,
+            next: s,
+        },
     }
 }

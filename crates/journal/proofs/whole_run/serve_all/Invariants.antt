@@ -1,7 +1,7 @@
 -- After i turns the state and the buffer are what the first i records leave.
 use Rattle.std.proofs.Common.{◌≡◌, ◌*◌, ◌++◌, drop}
 use Rattle.rules.specs.Journal.{record_bytes, state_after, answers_of}
-use Rattle.journal.proofs.whole_run.run.Given as goal
+use Rattle.journal.proofs.whole_run.serve_all.Given as goal
 
 abbrev pub invariant-loop-i : goal.invariant-loop-i
 invariant-loop-i l = record {

@@ -6,7 +6,7 @@ use Rattle.rules.specs.Journal.{record_bytes, record_at, record_served, answer_b
 use Rattle.rules.proofs.Journal.{answers_length}
 use Rattle.journal.proofs.Turns.{one_more}
 use Rattle.journal.proofs.Records.{chunk_read}
-use Rattle.journal.proofs.whole_run.run.Goals as goal
+use Rattle.journal.proofs.whole_run.serve_all.Goals as goal
 
 pub loop-i-preserved : goal.loop-i-preserved
 unfolding state_after answers_of
@@ -15,7 +15,7 @@ loop-i-preserved c =
     let j : List ℕ = c.args.journal.now in
     let i : ℕ = c.loop-i.i in
     let next : suc i ≡ i + 1 = sym (add-one i) in
-    let read : c.read_record.result ≡ record_at j (i * record_bytes) = c.read_record.ensures ∙ chunk_read j c.in-Ok.records.now _ i c.in-Ok.ensures.each (omega (arith, c.in-Ok.ensures.all)) in
+    let read : c.read_record.result ≡ record_at j (i * record_bytes) = c.read_record.ensures ∙ chunk_read j c.in_ok-records.records.now _ i c.in_ok-records.ensures.each (omega (arith, c.in_ok-records.ensures.all)) in
     let served : c.serve-outcome.result ≡ record_served (state_after s j i) (record_at j (i * record_bytes)) = c.serve-outcome.ensures ∙ ap₂ record_served c.loop-i.invariant.state read in
     record {
       state = ap (λ (o : Outcome). o.next) served ∙ ap (state_after s j) next;
