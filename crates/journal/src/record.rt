@@ -42,7 +42,7 @@ fn head_of(number: u8, rt: u8) -> u64
     (u64::from(number) % 16 * 32 + u64::from(rt) % 32) * 0x80_0000_0000_0000
 }
 
-// It takes a slice, since no proof follows a part of the buffer through `as_mut_array`.
+// A slice and no array: of a buffer whose part was lent on by `as_mut_array` a proof knows no more than its length.
 pub(crate) fn pack(part: &mut [u8], a: Answer)
     requires { length part.old ≡ record_bytes }
     ensures { part.new ≡ answer_bytes a }

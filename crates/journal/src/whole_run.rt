@@ -20,8 +20,8 @@ fn records_of<'a>(journal: &'a [u8], answers: &[u8]) -> Result<&'a [[u8; RECORD_
     Ok(records)
 }
 
-// The state after the last record. Each answer goes by its place: what a proof knows of a buffer lent out by `chunks_exact_mut` is
-// its length alone.
+// The state after the last record. Each answer is put at its place by index: of a buffer that `chunks_exact_mut` lent out a proof
+// knows no more than its length.
 #[tactic(auto, unfolding(rules::specs::Journal::run_of, rules::specs::Journal::buffer_after, rules::specs::Journal::state_after, rules::specs::Journal::answers_of))]
 fn serve_all(s: State, journal: &[u8], answers: &mut [u8]) -> Result<State, Refusal>
     ensures value { MatchResult result (λ next. run_of s journal.now answers.old ≡ run_done next) (λ refusal. run_of s journal.now answers.old ≡ run_refused s refusal) }
