@@ -1,4 +1,4 @@
 -- Laws that the functions' proofs share.
-pub mod LowFirst
-pub mod Stores
+pub mod Records
 pub mod Turns
+pub mod Words

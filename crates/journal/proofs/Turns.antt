@@ -1,23 +1,14 @@
 -- One turn of the run more: the next answer goes right behind the others, in front of what was in the buffer.
 -- Assumes nothing.
-use Prim.Native.Nat.{ℕ, ◌+◌, ◌≤◌}
-use mathlib.Core.List.{List, ◌++◌, append_assoc}
-use mathlib.Core.Path.{◌≡◌, ap, sym, ◌∙◌}
-use native.Mathlib.Omega.{arith}
-use lib.ListN.{length, take, drop, length-append, length-drop}
-use lib.Seq.{take_at, drop-append-add, drop-drop}
+use Rattle.std.proofs.Common.{◌≡◌, ℕ, ◌+◌, List, ◌++◌, length, drop, sym, ap, ◌∙◌, append_assoc}
+use Rattle.std.proofs.Math.Seq.{take_at, drop-append_seam, drop-drop}
+use borrow.Rule.Slice.PartMut.{put_mid}
 
--- the buffer with answers in front, and one more answer put behind them
-pub one_more : (front more buffer out : List ℕ) (k : ℕ) → length front ≡ k → out ≡ front ++ drop k buffer → take k out ++ (more ++ drop (k + 24) out) ≡ (front ++ more) ++ drop (k + 24) buffer
-one_more front more buffer out k n e =
-    let whole : List ℕ = front ++ drop k buffer in
-    let before : take k whole ≡ front = take_at front (drop k buffer) k n in
-    let behind : drop (k + 24) whole ≡ drop (k + 24) buffer = ap (λ (m : ℕ). drop (m + 24) whole) (sym n) ∙ drop-append-add front (drop k buffer) 24 ∙ drop-drop 24 k buffer in
-    ap (λ (o : List ℕ). take k o ++ (more ++ drop (k + 24) o)) e
-    ∙ ap (λ (f : List ℕ). f ++ (more ++ drop (k + 24) whole)) before
-    ∙ ap (λ (r : List ℕ). front ++ (more ++ r)) behind
-    ∙ sym (append_assoc front more (drop (k + 24) buffer))
+-- what lies behind the answers so far, and once one more is put there
+behind : (front buffer : List ℕ) (k m n : ℕ) → length front ≡ k → k + m ≡ n → drop m (drop k (front ++ drop k buffer)) ≡ drop n buffer
+behind front buffer k m n h s =
+    ap (λ (j : ℕ). drop m (drop j (front ++ drop k buffer))) (sym h) ∙ ap (drop m) (drop-append_seam front (drop k buffer)) ∙ drop-drop m k buffer ∙ ap (λ (j : ℕ). drop j buffer) s
 
--- answers in front of a buffer's rest leave its length
-pub same_length : (front buffer out : List ℕ) (k : ℕ) → length front ≡ k → k ≤ length buffer → out ≡ front ++ drop k buffer → length out ≡ length buffer
-same_length front buffer out k n h e = ap length e ∙ simp (length-append, length-drop) (omega (arith, n, h))
+pub one_more : (front more answers part buffer out : List ℕ) (k m n at : ℕ) → length front ≡ k → out ≡ front ++ drop k buffer → part ≡ more → answers ≡ front ++ more → at ≡ k → k + m ≡ n → put_mid at m out part ≡ answers ++ drop n buffer
+one_more front more answers part buffer out k m n at h e p a same s =
+    rw (same, e, p, a, take_at front (drop k buffer) k h, behind front buffer k m n h s) (sym (append_assoc front more (drop n buffer)))

@@ -1,3 +1,3 @@
--- What this room alone needs: bytes low one first, and a journal's last count.
-pub mod LowFirst
+-- What this crate alone needs: what stands between a journal and its run, and its last count.
 pub mod Last
+pub mod Runs

@@ -1,7 +1,6 @@
 // The access journal: records read, answers packed, and the run over one state with a lent answer buffer.
 #![tactic(auto)]
 
-mod bytes;
 mod record;
 mod whole_run;
 
