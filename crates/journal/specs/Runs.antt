@@ -2,24 +2,17 @@
 use Rattle.std.specs.Prelude.{ℕ, ◌≡◌, ◌≤◌, ◌*◌, List, length}
 use Rattle.std.specs.Simd.{first_chunks}
 use Rattle.rules.specs.declared.refusal.Refusal.{Refusal}
-use Rattle.rules.specs.declared.refusal.Refusal.TheVariants.{NotATimerAccess, ImpossibleContext, ReservedBitSet, BadJournal, BufferTooShort}
 use Rattle.rules.specs.declared.record.Run.{Run}
 use Rattle.rules.specs.declared.state.State.{State}
-use Rattle.rules.specs.Answers.{done, not_a_timer_access, impossible_context, reserved_bit_set}
-use Rattle.rules.specs.Journal.{record_bytes, bad_journal, buffer_too_short, run_number, turns}
-
-abbrev pub number_of : Refusal → ℕ
-number_of NotATimerAccess = not_a_timer_access
-number_of ImpossibleContext = impossible_context
-number_of ReservedBitSet = reserved_bit_set
-number_of BadJournal = bad_journal
-number_of BufferTooShort = buffer_too_short
+use Rattle.rules.specs.Answers.{done}
+use Rattle.rules.specs.Journal.{record_bytes, run_number, turns}
+use Rattle.desk.specs.Numbers.{refusal_number}
 
 abbrev pub run_done : State → Run
 run_done next = record { number = done; next = next }
 
 abbrev pub run_refused : State → Refusal → Run
-run_refused s refusal = record { number = number_of refusal; next = s }
+run_refused s refusal = record { number = refusal_number refusal; next = s }
 
 pub record IsRun (journal buffer : List ℕ) (records : List (List ℕ)) : Type 0 where
   pub number : run_number journal buffer ≡ done
@@ -28,5 +21,5 @@ pub record IsRun (journal buffer : List ℕ) (records : List (List ℕ)) : Type 
   pub fits : length records * record_bytes ≤ length buffer
 
 pub record IsRefused (journal buffer : List ℕ) (refusal : Refusal) : Type 0 where
-  pub number : run_number journal buffer ≡ number_of refusal
+  pub number : run_number journal buffer ≡ refusal_number refusal
   pub none : turns journal buffer ≡ 0

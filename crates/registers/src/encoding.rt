@@ -1,6 +1,6 @@
 // The five numbers that a register is known by: out of an instruction word (RULES, 'Instruction words and register names') or a
 // syndrome (RULES, 'Syndromes'), and into a word.
-ghost use Rattle.std.specs.Prelude.{◌≡◌, cond, None, Some};
+ghost use Rattle.std.specs.Prelude.{◌≡◌, if◌then◌else◌, None, Some};
 ghost use Rattle.registers.specs.Encodings.{FitsWord, encoding_of, encoding_of_syndrome, word_with};
 ghost use Rattle.rules.specs.Names.{is_mrs_or_msr};
 
@@ -19,7 +19,7 @@ pub struct Encoding {
 impl Encoding {
     // Only an MRS or MSR has one.
     pub(crate) fn of_word(word: u32) -> Option<Encoding>
-        ensures { result ≡ cond (is_mrs_or_msr word) (Some (encoding_of word)) None }
+        ensures { result ≡ (if is_mrs_or_msr word then Some (encoding_of word) else None) }
     {
         if is_mrs_or_msr(word) {
             Some(Encoding {
