@@ -15,7 +15,7 @@ const ROOM: usize = 2 * RECORD_LIMIT * RECORD_BYTES;
 fn main(rt: HostRuntime) -> io::Result<()> {
     let mut input = [0; ROOM];
     let mut answers = [0; ROOM];
-    // `probe` reads alike: what both stand on is linked into a hypervisor, and is no place for what reads an input.
+    // `probe` reads alike: a crate of their own for two lines would be no plainer, and what both stand on is linked into a hypervisor.
     let copied = io::copy(&mut rt.stdin().take(ROOM as u64), &mut &mut input[..])?;
     // No clause of std says that no more is copied than there is room for.
     let journal = &input[..(copied as usize).min(ROOM)];

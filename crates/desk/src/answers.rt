@@ -41,6 +41,7 @@ pub fn stopped(stop: Stop, word: u32) -> Answer
     answered(stop as u8, word, 0, 0)
 }
 
+// By any number and not by `Refusal` alone: that is what it promises.
 pub fn refused(number: u8) -> Answer
     ensures { result ≡ rule.refused number }
 {

@@ -22,6 +22,7 @@ pub fn impossible(s: State) -> bool
     (e2h && !vhe) || (eel2 && !sel2) || ((ecven || h.ecv || h.el1tvt || h.el1tvct) && !ecv)
 }
 
+// That a level is above 3 is asked of its number: `Level::from` takes it for EL3.
 #[tactic(auto, unfolding(rules::specs::Context::impossible_at))]
 pub fn impossible_at(s: State, level: u8) -> bool
     ensures { result ≡ impossible_at s level }

@@ -92,7 +92,7 @@ impl<const N: usize> Packed for [u8; N] {
     }
 }
 
-// Each width has an `impl`: no trait of std has `from_be_bytes`, and `rt ci` takes no `impl` that a macro wrote.
+// Two widths, two blocks: no trait of std has `from_be_bytes`, and one of our own would need a block for each too.
 impl Packed for u32 {
     fn read(bits: &mut Reader) -> u32 {
         u32::from_be_bytes(bits.read())

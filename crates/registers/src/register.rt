@@ -2,6 +2,7 @@
 use crate::encoding::Encoding;
 use rules::{Name, Part};
 
+// One constant for each, as the paper has them; its numbers by their names, since a constant calls no function.
 #[derive(Clone, Copy)]
 pub struct Register {
     pub name: Name,

@@ -8,6 +8,7 @@ pub struct Value {
     pub mask: u64,
 }
 
+// The number is a byte and no enum, here and in `Lines`: C reads it.
 #[repr(C)]
 #[derive(Clone, Copy)]
 pub struct Answer {

@@ -25,6 +25,7 @@ pub struct Cnthctl {
     pub el1tvct: bool,
 }
 
+// The level is a number: `gates::facts` and `gates::verdict` promise an answer for each, above 3 too.
 #[derive(Clone, Copy)]
 pub struct Facts {
     pub level: u8,

@@ -1,14 +1,14 @@
 // The names by which registers are known (RULES, 'Instruction words and register names').
 
 // The three registers of a timer.
-#[derive(Clone, Copy)]
+#[derive(Clone, Copy, Debug, PartialEq, Eq)]
 pub enum Part {
     Tval,
     Ctl,
     Cval,
 }
 
-#[derive(Clone, Copy)]
+#[derive(Clone, Copy, Debug, PartialEq, Eq)]
 pub enum Name {
     Cntpct,
     Cntvct,

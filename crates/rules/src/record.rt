@@ -14,7 +14,8 @@ pub struct Record {
     pub reserved: u32,
 }
 
-// The number that a run answers itself, and the state that it leaves.
+// The number that a run answers itself, and the state that it leaves. It is no Result: `journal::run` cannot fail, and promises the
+// state of a refused run too.
 #[repr(C)]
 #[derive(Clone, Copy)]
 pub struct Run {

@@ -33,7 +33,7 @@ pub struct Timer {
 }
 
 // The six timers, by name.
-#[derive(Clone, Copy)]
+#[derive(Clone, Copy, Debug, PartialEq, Eq)]
 pub enum TimerName {
     Cntp,
     Cntv,

@@ -2,7 +2,7 @@
 use crate::name::Part;
 use crate::state::TimerName;
 
-#[derive(Clone, Copy)]
+#[derive(Clone, Copy, Debug, PartialEq, Eq)]
 pub enum Target {
     Cntpct,
     Cntvct,
@@ -14,7 +14,7 @@ pub enum Target {
 }
 
 // It is Undefined, or traps to a level; each with its number among the answers.
-#[derive(Clone, Copy)]
+#[derive(Clone, Copy, Debug, PartialEq, Eq)]
 pub enum Stop {
     Undefined = 1,
     ToEl1 = 2,

@@ -6,7 +6,7 @@ ghost use Rattle.rules.specs.Values as rule;
 
 use rules::{Part, Timer, Value};
 
-// A value whose bits are all known.
+// A value whose bits are all known; a `From` would not say so.
 pub fn known(value: u64) -> Value
     ensures { result ≡ rule.known value }
 {
