@@ -42,7 +42,7 @@ impl Family {
 
     // Whose timer an access reaches that no rule stops.
     #[tactic(auto, unfolding(crate::specs::Redirect::reached_of))]
-    pub fn reached(self, f: Facts, p: Part) -> Target
+    pub(crate) fn reached(self, f: Facts, p: Part) -> Target
         ensures { Ok result ≡ reached_of f self p }
     {
         match Level::from(f.level) {

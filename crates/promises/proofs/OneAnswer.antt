@@ -19,6 +19,7 @@ each_promise =
       last_count = λ κs a x y e d. both_are;
       elsterkabel_version = λ κs a x y e d. both_are;
       elsterkabel_word_of = λ κs a x y e d. both_are;
+      level_from = λ κs a x y e d. both_are;
       named_by = λ κs a x y e d. both_are;
       is_mrs = λ κs a x y e d. both_are;
       rt = λ κs a x y e d. both_are;

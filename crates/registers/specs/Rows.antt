@@ -1,5 +1,5 @@
 -- A register of the code as a row of the rulebook's name table.
-use Rattle.std.specs.Prelude.{Bool, ◌&&◌, eqb}
+use Rattle.std.specs.Prelude.{Bool, ◌&&◌, ◌==◌}
 use Rattle.registers.specs.declared.encoding.Encoding.{Encoding}
 use Rattle.registers.specs.declared.register.Register.{Register}
 use Rattle.rules.specs.Names.{Row}
@@ -10,8 +10,8 @@ row_of r = record { name = r.name; op0 = r.encoding.op0; op1 = r.encoding.op1; c
 -- a register has these five numbers
 abbrev pub has_encoding : Encoding → Register → Bool
 has_encoding e r =
-    eqb r.encoding.op0 e.op0
-    && eqb r.encoding.op1 e.op1
-    && eqb r.encoding.crn e.crn
-    && eqb r.encoding.crm e.crm
-    && eqb r.encoding.op2 e.op2
+    r.encoding.op0 == e.op0
+    && r.encoding.op1 == e.op1
+    && r.encoding.crn == e.crn
+    && r.encoding.crm == e.crm
+    && r.encoding.op2 == e.op2

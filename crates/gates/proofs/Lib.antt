@@ -1,0 +1,2 @@
+-- Laws of the rulebook's choice by level.
+pub mod Levels
