@@ -1,8 +1,11 @@
 // The answers (RULES, 'What the desk answers').
 use crate::state::State;
 
+// The number of an answer that is no stop and no refusal.
+pub const DONE: u8 = 0;
+
 // What a register reads as: its bits, those that are unknown given as 0, and the mask that names the unknown ones.
-#[derive(Clone, Copy)]
+#[derive(Clone, Copy, Debug, PartialEq, Eq)]
 pub struct Value {
     pub value: u64,
     pub mask: u64,
@@ -10,7 +13,7 @@ pub struct Value {
 
 // The number is a byte and no enum, here and in `Lines`: C reads it.
 #[repr(C)]
-#[derive(Clone, Copy)]
+#[derive(Clone, Copy, Debug, PartialEq, Eq)]
 pub struct Answer {
     pub number: u8,
     pub rt: u8,
@@ -20,7 +23,7 @@ pub struct Answer {
 
 // An answer, and the state that the access leaves.
 #[repr(C)]
-#[derive(Clone, Copy)]
+#[derive(Clone, Copy, Debug, PartialEq, Eq)]
 pub struct Outcome {
     pub answer: Answer,
     pub next: State,
@@ -28,7 +31,7 @@ pub struct Outcome {
 
 // The answer to the lines question: its number, and which of the six lines are raised.
 #[repr(C)]
-#[derive(Clone, Copy)]
+#[derive(Clone, Copy, Debug, PartialEq, Eq)]
 pub struct Lines {
     pub number: u8,
     pub cntp: bool,

@@ -1,7 +1,8 @@
 // What the rules ask of a state at a level (RULES, 'Who may touch what'): its words and bits, each by its name.
+use crate::level::Level;
 
 // The bits of CNTKCTL_EL1.
-#[derive(Clone, Copy)]
+#[derive(Clone, Copy, Debug, PartialEq, Eq)]
 pub struct Cntkctl {
     pub el0pcten: bool,
     pub el0vcten: bool,
@@ -11,7 +12,7 @@ pub struct Cntkctl {
 
 // The bits of CNTHCTL_EL2, each from its own place; `el1pcten` has two, of which E2H picks one. A rule asks a name that only
 // one layout has with that E2H alone.
-#[derive(Clone, Copy)]
+#[derive(Clone, Copy, Debug, PartialEq, Eq)]
 pub struct Cnthctl {
     pub el0pcten: bool,
     pub el0vcten: bool,
@@ -26,7 +27,7 @@ pub struct Cnthctl {
 }
 
 // The level is a number: `gates::facts` and `gates::verdict` promise an answer for each, above 3 too.
-#[derive(Clone, Copy)]
+#[derive(Clone, Copy, Debug, PartialEq, Eq)]
 pub struct Facts {
     pub level: u8,
     pub vhe: bool,
@@ -42,4 +43,16 @@ pub struct Facts {
     pub offset: bool, // offset on
     pub cntkctl: Cntkctl,
     pub cnthctl: Cnthctl,
+}
+
+impl Facts {
+    ghost use Rattle.std.specs.Prelude.{◌≡◌};
+    ghost use Rattle.rules.specs.Levels.{level_of};
+
+    // Above 3 it is EL3, as the rules have it.
+    pub fn exception_level(self) -> Level
+        ensures { result ≡ level_of self.level }
+    {
+        Level::try_from(self.level).unwrap_or(Level::El3)
+    }
 }

@@ -1,6 +1,8 @@
 // The exception levels.
 ghost use Rattle.std.specs.Prelude.{◌≡◌};
-ghost use Rattle.rules.specs.Levels.{level_of};
+ghost use Rattle.rules.specs.Levels.{level_or_refused};
+
+use crate::refusal::Refusal;
 
 #[derive(Clone, Copy, Debug, PartialEq, Eq)]
 pub enum Level {
@@ -10,16 +12,18 @@ pub enum Level {
     El3,
 }
 
-// A level above 3 is refused with 5 before any rule is asked; the rules take it for EL3.
-impl From<u8> for Level {
-    ghost from_gives = { λ n level. level ≡ level_of n };
+impl TryFrom<u8> for Level {
+    type Error = Refusal;
 
-    fn from(level: u8) -> Level {
+    ghost try_from_gives = { λ n result. result ≡ level_or_refused n };
+
+    fn try_from(level: u8) -> Result<Level, Refusal> {
         match level {
-            0 => Level::El0,
-            1 => Level::El1,
-            2 => Level::El2,
-            _ => Level::El3,
+            0 => Ok(Level::El0),
+            1 => Ok(Level::El1),
+            2 => Ok(Level::El2),
+            3 => Ok(Level::El3),
+            _ => Err(Refusal::ImpossibleContext),
         }
     }
 }

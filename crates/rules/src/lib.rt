@@ -12,7 +12,7 @@ mod state;
 mod verdict;
 
 pub use access::Access;
-pub use answer::{Answer, Lines, Outcome, Value};
+pub use answer::{Answer, DONE, Lines, Outcome, Value};
 pub use facts::{Cnthctl, Cntkctl, Facts};
 pub use level::Level;
 pub use name::{Name, Part};

@@ -4,7 +4,7 @@
 
 // The three yes/no facts; `ecv` stands for the feature of CNTPOFF too.
 #[repr(C)]
-#[derive(Clone, Copy)]
+#[derive(Clone, Copy, Debug, PartialEq, Eq)]
 pub struct Features {
     pub vhe: bool,
     pub sel2: bool,
@@ -13,7 +13,7 @@ pub struct Features {
 
 // The controls that demand 3 speaks of: the facts of SCR_EL3 and HCR_EL2, and the two control registers.
 #[repr(C)]
-#[derive(Clone, Copy)]
+#[derive(Clone, Copy, Debug, PartialEq, Eq)]
 pub struct Controls {
     pub ns: bool,
     pub eel2: bool,
@@ -25,7 +25,7 @@ pub struct Controls {
 }
 
 #[repr(C)]
-#[derive(Clone, Copy)]
+#[derive(Clone, Copy, Debug, PartialEq, Eq)]
 pub struct Timer {
     pub cval: u64,
     pub enable: bool,
@@ -44,7 +44,7 @@ pub enum TimerName {
 }
 
 #[repr(C)]
-#[derive(Clone, Copy)]
+#[derive(Clone, Copy, Debug, PartialEq, Eq)]
 pub struct Timers {
     pub cntp: Timer,
     pub cntv: Timer,
@@ -55,7 +55,7 @@ pub struct Timers {
 }
 
 #[repr(C)]
-#[derive(Clone, Copy)]
+#[derive(Clone, Copy, Debug, PartialEq, Eq)]
 pub struct State {
     pub features: Features,
     pub controls: Controls,
