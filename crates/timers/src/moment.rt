@@ -7,7 +7,7 @@ use crate::timer::{known, read_timer, write_timer};
 use controls::{stored_cnthctl, stored_cntkctl};
 use rules::{Controls, Facts, State, Target, Value};
 
-// The facts are those of the state at the access's level; nothing here asks that they are.
+// The facts are those of the state at the access's level. No invariant says so: `read` and `write` promise for any three.
 #[derive(Clone, Copy)]
 pub struct Moment {
     pub facts: Facts,
@@ -27,7 +27,7 @@ impl Moment {
             Target::Cntvoff => known(state.cntvoff),
             Target::Timer(name, part) => {
                 let timer = get(state.timers, name);
-                read_timer(timer, part, self.used(name), self.condition(name))
+                read_timer(timer, part, self.used_count(name), self.condition_count(name))
             }
             Target::Cntkctl => known(u64::from(state.controls.cntkctl)),
             Target::Cnthctl => known(u64::from(state.controls.cnthctl)),
@@ -49,7 +49,7 @@ impl Moment {
             },
             Target::Timer(name, part) => {
                 let timer = get(state.timers, name);
-                let written = write_timer(timer, part, self.used(name), operand);
+                let written = write_timer(timer, part, self.used_count(name), operand);
                 State {
                     timers: put(state.timers, name, written),
                     ..state

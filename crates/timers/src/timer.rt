@@ -20,7 +20,6 @@ pub fn met(timer: Timer, condition: u64) -> bool
     timer.enable && timer.cval <= condition
 }
 
-// The timer's line.
 pub fn raised(timer: Timer, condition: u64) -> bool
     ensures { result ≡ rule.raised timer condition }
 {
@@ -47,7 +46,6 @@ pub fn read_timer(timer: Timer, part: Part, used: u64, condition: u64) -> Value
     }
 }
 
-// The low 32 bits taken as signed.
 fn signed32(operand: u64) -> u64
     ensures { result ≡ signed32 operand }
 {
