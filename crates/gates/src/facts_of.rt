@@ -4,7 +4,7 @@ ghost use Rattle.rules.specs.Bits.{bit};
 ghost use Rattle.rules.specs.Words.{on, offset_on, facts_of};
 ghost use Rattle.rules.specs.Words as words;
 
-use rules::{Cnthctl, Cntkctl, Controls, Facts, Features, State};
+use rules::{Cnthctl, Cntkctl, Controls, Facts, Features, Level, State};
 
 fn bit(x: u32, k: u32) -> bool
     requires { k < 32 }
@@ -13,6 +13,7 @@ fn bit(x: u32, k: u32) -> bool
     (x >> k) % 2 == 1
 }
 
+// Four lines stand in `cnthctl` too: the paper lists each register's bits by themselves (`Bits.cntkctl_of`, `cnthctl_of`).
 fn cntkctl(s: State) -> Cntkctl
     ensures { result ≡ words.cntkctl s }
 {
@@ -64,6 +65,7 @@ pub fn facts(s: State, level: u8) -> Facts
     } = s.controls;
     let cnthctl = cnthctl(s);
     let on = el2_on(s);
+    let at_el3 = matches!(Level::try_from(level), Ok(Level::El3));
     let host = on && e2h && tge;
     Facts {
         level,
@@ -76,8 +78,7 @@ pub fn facts(s: State, level: u8) -> Facts
         tge,
         on,
         host,
-        // Not by `Level`, which takes a number above 3 for EL3.
-        secure: !ns || level == 3,
+        secure: !ns || at_el3,
         offset: ecv && on && ecven && cnthctl.ecv && !host,
         cntkctl: cntkctl(s),
         cnthctl,

@@ -7,7 +7,7 @@ use crate::cntp::cntp;
 use crate::cntv::cntv;
 use crate::control::{cntkctl, cntpoff};
 use crate::counters::{cntpct, cntvct};
-use crate::el2::{cnthvs, from_el2_on};
+use crate::el2::{at_el2_and_above, cnthvs};
 use rules::{Facts, Name, Stop, Target, TimerName, Verdict};
 
 // The counters are Undefined for MSR, and their SS forms without ECV.
@@ -34,11 +34,11 @@ pub fn verdict(f: Facts, name: Name, mrs: bool) -> Verdict
         }
         Name::Cntp(p) => cntp(f, p),
         Name::Cntv(p) => cntv(f, p),
-        Name::Cntvoff => from_el2_on(f, Target::Cntvoff),
-        Name::Cnthp(p) => from_el2_on(f, Target::Timer(TimerName::Cnthp, p)),
+        Name::Cntvoff => at_el2_and_above(f, Target::Cntvoff),
+        Name::Cnthp(p) => at_el2_and_above(f, Target::Timer(TimerName::Cnthp, p)),
         Name::Cnthvs(p) => cnthvs(f, p),
         Name::Cntkctl => cntkctl(f),
-        Name::Cnthctl => from_el2_on(f, Target::Cnthctl),
+        Name::Cnthctl => at_el2_and_above(f, Target::Cnthctl),
         Name::Cntpoff => cntpoff(f),
     }
 }
