@@ -13,7 +13,7 @@ fn bit(x: u32, k: u32) -> bool
     (x >> k) % 2 == 1
 }
 
-// Four lines stand in `cnthctl` too: the paper lists each register's bits by themselves (`Bits.cntkctl_of`, `cnthctl_of`).
+// Four lines stand in `cnthctl` too: the paper lists the bits of each register in full (`Bits.cntkctl_of`, `cnthctl_of`).
 fn cntkctl(s: State) -> Cntkctl
     ensures { result ≡ words.cntkctl s }
 {

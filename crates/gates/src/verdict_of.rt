@@ -2,7 +2,6 @@
 ghost use Rattle.std.specs.Prelude.{◌≡◌};
 ghost use Rattle.rules.specs.Verdicts.{verdict_of};
 
-use crate::checks::stop_if;
 use crate::cntp::cntp;
 use crate::cntv::cntv;
 use crate::control::{cntkctl, cntpoff};
@@ -10,28 +9,15 @@ use crate::counters::{cntpct, cntvct};
 use crate::el2::{at_el2_and_above, cnthvs};
 use rules::{Facts, Name, Stop, Target, TimerName, Verdict};
 
-// The counters are Undefined for MSR, and their SS forms without ECV.
 #[tactic(auto, unfolding(rules::specs::Verdicts::verdict_of, rules::specs::El2::cntvoff, rules::specs::El2::cnthp, rules::specs::Control::cnthctl))]
 pub fn verdict(f: Facts, name: Name, mrs: bool) -> Verdict
     ensures { result ≡ verdict_of f name mrs }
 {
     match name {
-        Name::Cntpct => {
-            stop_if(!mrs, Stop::Undefined)?;
-            cntpct(f)
-        }
-        Name::Cntvct => {
-            stop_if(!mrs, Stop::Undefined)?;
-            cntvct(f)
-        }
-        Name::Cntpctss => {
-            stop_if(!mrs || !f.ecv, Stop::Undefined)?;
-            cntpct(f)
-        }
-        Name::Cntvctss => {
-            stop_if(!mrs || !f.ecv, Stop::Undefined)?;
-            cntvct(f)
-        }
+        Name::Cntpct | Name::Cntvct if !mrs => Err(Stop::Undefined),
+        Name::Cntpctss | Name::Cntvctss if !mrs || !f.ecv => Err(Stop::Undefined),
+        Name::Cntpct | Name::Cntpctss => cntpct(f),
+        Name::Cntvct | Name::Cntvctss => cntvct(f),
         Name::Cntp(p) => cntp(f, p),
         Name::Cntv(p) => cntv(f, p),
         Name::Cntvoff => at_el2_and_above(f, Target::Cntvoff),
