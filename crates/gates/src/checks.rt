@@ -27,7 +27,7 @@ pub trait Bits: Copy {
     fn check(self, f: Facts) -> Result<(), Stop>
         ensures { ChecksByLevel f.level (el0_rules self f) (el1_rules self f) result }
     {
-        match Level::from(f.level) {
+        match f.exception_level() {
             Level::El0 => self.check_at_el0(f),
             Level::El1 => self.check_at_el1(f),
             Level::El2 | Level::El3 => Ok(()),

@@ -10,7 +10,7 @@ use rules::{Facts, Level, Stop, Target, Verdict};
 pub fn cntkctl(f: Facts) -> Verdict
     ensures { result ≡ gate.cntkctl f }
 {
-    match Level::from(f.level) {
+    match f.exception_level() {
         Level::El0 => Err(Stop::Undefined),
         Level::El2 if f.e2h => Ok(Target::Cnthctl),
         Level::El1 | Level::El2 | Level::El3 => Ok(Target::Cntkctl),
@@ -22,7 +22,7 @@ pub fn cntpoff(f: Facts) -> Verdict
     ensures { result ≡ gate.cntpoff f }
 {
     stop_if(!f.ecv, Stop::Undefined)?;
-    match Level::from(f.level) {
+    match f.exception_level() {
         Level::El0 | Level::El1 => Err(Stop::Undefined),
         Level::El2 if !f.ecven => Err(Stop::ToEl3),
         Level::El2 | Level::El3 => Ok(Target::Cntpoff),

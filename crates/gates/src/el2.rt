@@ -11,7 +11,7 @@ use rules::{Facts, Level, Part, Stop, Target, TimerName, Verdict};
 pub fn from_el2_on(f: Facts, register: Target) -> Verdict
     ensures { result ≡ at_level f.level (Err Undefined) (Err Undefined) (Ok register) (Ok register) }
 {
-    match Level::from(f.level) {
+    match f.exception_level() {
         Level::El0 | Level::El1 => Err(Stop::Undefined),
         Level::El2 | Level::El3 => Ok(register),
     }
@@ -21,7 +21,7 @@ pub fn from_el2_on(f: Facts, register: Target) -> Verdict
 pub fn cnthvs(f: Facts, p: Part) -> Verdict
     ensures { result ≡ gate.cnthvs f p }
 {
-    let allowed = match Level::from(f.level) {
+    let allowed = match f.exception_level() {
         Level::El0 | Level::El1 => false,
         Level::El2 => f.secure,
         Level::El3 => f.eel2,

@@ -45,7 +45,7 @@ impl Family {
     pub(crate) fn reached(self, f: Facts, p: Part) -> Target
         ensures { Ok result ≡ reached_of f self p }
     {
-        match Level::from(f.level) {
+        match f.exception_level() {
             Level::El0 => self.redirected(f, f.host, p),
             Level::El2 => self.redirected(f, f.e2h, p),
             Level::El1 | Level::El3 => Target::Timer(self.itself, p),

@@ -26,7 +26,7 @@ impl Moment {
     fn offset_seen(self) -> bool
         ensures { result ≡ offset_seen self.facts }
     {
-        self.facts.offset && matches!(Level::from(self.facts.level), Level::El0 | Level::El1)
+        self.facts.offset && matches!(self.facts.exception_level(), Level::El0 | Level::El1)
     }
 
     // The count used by a timer's TVAL.
@@ -54,7 +54,7 @@ impl Moment {
     pub(crate) fn virtual_seen(self) -> u64
         ensures { result ≡ virtual_seen self.facts self.state self.physical }
     {
-        match Level::from(self.facts.level) {
+        match self.facts.exception_level() {
             Level::El0 if self.facts.host => self.physical,
             Level::El2 if self.facts.e2h => self.physical,
             _ => self.used(TimerName::Cntv),
