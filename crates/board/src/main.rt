@@ -4,7 +4,7 @@
 
 mod start_state;
 
-use rules::{RECORD_BYTES, RECORD_LIMIT};
+use rules::{DONE, RECORD_BYTES, RECORD_LIMIT};
 use start_state::start;
 use std::io;
 use std::io::{Read, Write};
@@ -13,15 +13,16 @@ use std::io::{Read, Write};
 const ROOM: usize = 2 * RECORD_LIMIT * RECORD_BYTES;
 
 fn main(rt: HostRuntime) -> io::Result<()> {
+    // Arrays and no Vec, so that the contracts of the heap are not assumed.
     let mut input = [0; ROOM];
     let mut answers = [0; ROOM];
-    // `probe` reads alike: a crate of their own for two lines would be no plainer, and what both stand on is linked into a hypervisor.
+    // `probe` reads its input in the same two lines: a crate for them would be no plainer, and the libraries read no input.
     let copied = io::copy(&mut rt.stdin().take(ROOM as u64), &mut &mut input[..])?;
     // No clause of std says that no more is copied than there is room for.
     let journal = &input[..(copied as usize).min(ROOM)];
     let answers = &mut answers[..journal.len()];
     let ran = journal::run(start(), journal, answers);
-    if ran.number == 0 {
+    if ran.number == DONE {
         rt.stdout().write_all(answers)?;
     }
     Ok(())

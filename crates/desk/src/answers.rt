@@ -5,9 +5,7 @@ ghost use Rattle.rules.specs.Answers as rule;
 ghost use Rattle.desk.specs.Numbers.{stop_number};
 
 use registers::rt;
-use rules::{Answer, Outcome, State, Stop, Value};
-
-pub const DONE: u8 = 0;
+use rules::{Answer, DONE, Outcome, State, Stop, Value};
 
 // 0 to 3 and 10 give the word's Rt.
 fn answered(number: u8, word: u32, value: u64, mask: u64) -> Answer

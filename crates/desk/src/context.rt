@@ -22,17 +22,16 @@ pub fn impossible(s: State) -> bool
     (e2h && !vhe) || (eel2 && !sel2) || ((ecven || h.ecv || h.el1tvt || h.el1tvct) && !ecv)
 }
 
-// That a level is above 3 is asked of its number: `Level::from` takes it for EL3.
 #[tactic(auto, unfolding(rules::specs::Context::impossible_at))]
 pub fn impossible_at(s: State, level: u8) -> bool
     ensures { result ≡ impossible_at s level }
 {
     let on = el2_on(s);
-    level > 3
-        || impossible(s)
-        || match Level::from(level) {
-            Level::El1 => on && s.controls.tge,
-            Level::El2 => !on,
-            Level::El0 | Level::El3 => false,
-        }
+    let at_this_level = match Level::try_from(level) {
+        Ok(Level::El0 | Level::El3) => false,
+        Ok(Level::El1) => on && s.controls.tge,
+        Ok(Level::El2) => !on,
+        Err(_) => true,
+    };
+    at_this_level || impossible(s)
 }

@@ -1,18 +1,13 @@
 // Which timer lines are raised (RULES, 'Timer met').
 ghost use Rattle.std.specs.Prelude.{◌≡◌};
-ghost use Rattle.rules.specs.Counts.{condition_count};
 ghost use Rattle.rules.specs.Lines.{lines_of};
 ghost use Rattle.desk.specs.Lines.{EachLine};
-ghost use Rattle.rules.specs.Timers as timers_by_name;
-ghost use Rattle.rules.specs.Values as rule;
 
-use crate::answers::DONE;
 use crate::context::impossible;
 use gates::offset_on;
-use rules::{Lines, Refusal, State, TimerName};
+use rules::{DONE, Lines, Refusal, State, TimerName};
 use timers::{count_of, get, raised};
 
-// The number, and each line by its timer.
 fn lines_by<F: Fn(TimerName) -> bool>(number: u8, line: F) -> Lines
     requires { F.IsAlwaysCallable line }
     ensures number { result.number ≡ number }

@@ -2,57 +2,39 @@
 ghost use Rattle.std.specs.Prelude.{◌≡◌};
 ghost use Rattle.rules.specs.Names.{written_operand};
 ghost use Rattle.rules.specs.Access.{access_of};
-ghost use Rattle.rules.specs.Access as rule;
 ghost use Rattle.desk.specs.Refused.{by_the_rules, named_or_refused};
 
 use crate::answers::{as_before, done_read, done_write, refused, stopped};
 use crate::context::impossible_at;
 use gates::{facts, verdict};
 use registers::{Register, is_mrs, rt};
-use rules::{Access, Facts, Name, Outcome, Refusal, State, Target, Verdict};
+use rules::{Access, Name, Outcome, Refusal, State};
 use timers::Moment;
 
-// MSR with Rt 31 writes 0.
+// Rt 31 is the zero register.
 fn written_operand(a: Access) -> u64
     ensures { result ≡ written_operand a }
 {
     if rt(a.word) == 31 { 0 } else { a.operand }
 }
 
-#[tactic(auto, unfolding(rules::specs::Access::permitted))]
-fn permitted(f: Facts, s: State, a: Access, target: Target) -> Outcome
-    ensures { result ≡ rule.permitted f s a target }
-{
-    let moment = Moment {
-        facts: f,
-        state: s,
-        physical: a.count,
-    };
-    if is_mrs(a.word) {
-        as_before(s, done_read(a.word, moment.read(target)))
-    } else {
-        Outcome {
-            answer: done_write(a.word),
-            next: moment.write(target, written_operand(a)),
-        }
-    }
-}
-
-#[tactic(auto, unfolding(rules::specs::Access::ruled))]
-fn ruled(f: Facts, s: State, a: Access, verdict: Verdict) -> Outcome
-    ensures { result ≡ rule.ruled f s a verdict }
-{
-    match verdict {
-        Ok(target) => permitted(f, s, a, target),
-        Err(stop) => as_before(s, stopped(stop, a.word)),
-    }
-}
-
+#[tactic(auto, unfolding(rules::specs::Access::ruled, rules::specs::Access::permitted))]
 fn by_the_rules(s: State, a: Access, name: Name) -> Outcome
     ensures { result ≡ by_the_rules s a name }
 {
-    let f = facts(s, a.level);
-    ruled(f, s, a, verdict(f, name, is_mrs(a.word)))
+    let moment = Moment {
+        facts: facts(s, a.level),
+        state: s,
+        physical: a.count,
+    };
+    match verdict(moment.facts, name, is_mrs(a.word)) {
+        Err(stop) => as_before(s, stopped(stop, a.word)),
+        Ok(target) if is_mrs(a.word) => as_before(s, done_read(a.word, moment.read(target))),
+        Ok(target) => Outcome {
+            answer: done_write(a.word),
+            next: moment.write(target, written_operand(a)),
+        },
+    }
 }
 
 // The register that the word names: 4 and then 5 come before the rules.

@@ -1,6 +1,7 @@
 // What the archive for C exports: each function of the crate lent, under its own name and with its own promise, by C's calling
 // convention. Each parameter is a pointer or a number (a slice is a pointer and then a length), and each result a number or
-// nothing, which every calling convention passes in one way.
+// nothing, which every calling convention passes in one way. They stand twice, since a crate is a library, of which theorems may
+// speak, or what an archive is made of.
 #![tactic(auto)]
 
 ghost use Rattle.std.specs.Prelude.{◌≡◌};

@@ -1,7 +1,8 @@
 // Bits, most significant first: read from bytes, and written into them.
 use std::array;
 
-// Behind the last bit come zeros, so no `read` asks for a bound.
+// Its place is counted in bits, since a flag is one and the words behind it begin within a byte. Behind the last bit come zeros, so
+// no `read` asks for a bound.
 #[derive(Drop)]
 pub struct Reader<'a> {
     bytes: &'a [u8],

@@ -15,6 +15,7 @@ pub fn image_of(state: State) -> [u8; IMAGE_BYTES] {
     image
 }
 
+// Each type has its fields in their order twice: a reader makes what a writer takes apart.
 impl Packed for Features {
     fn read(bits: &mut Reader) -> Features {
         Features {

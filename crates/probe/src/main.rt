@@ -5,7 +5,7 @@ mod bits;
 mod image;
 
 use image::{IMAGE_BYTES, image_of, read_state};
-use rules::{Lines, RECORD_BYTES, RECORD_LIMIT, State};
+use rules::{DONE, Lines, RECORD_BYTES, RECORD_LIMIT, State};
 use std::io;
 use std::io::{Read, Write};
 
@@ -42,7 +42,7 @@ fn answer(
     answers: &mut [u8],
 ) -> io::Result<()> {
     let ran = journal::run(state, journal, answers);
-    if ran.number == 0 {
+    if ran.number == DONE {
         out.write_all(answers)?;
         report(out, ran.next, journal::last_count(journal))
     } else {
@@ -51,9 +51,10 @@ fn answer(
 }
 
 fn main(rt: HostRuntime) -> io::Result<()> {
+    // Arrays and no Vec, so that the contracts of the heap are not assumed.
     let mut input = [0; ROOM];
     let mut answers = [0; ROOM];
-    // `board` reads alike: a crate of their own for two lines would be no plainer, and what both stand on is linked into a hypervisor.
+    // `board` reads its input in the same two lines: a crate for them would be no plainer, and the libraries read no input.
     let copied = io::copy(&mut rt.stdin().take(ROOM as u64), &mut &mut input[..])?;
     // No clause of std says that no more is copied than there is room for.
     let input = &input[..(copied as usize).min(ROOM)];

@@ -14,7 +14,8 @@ use Rattle.journal.proofs.run as journal_run
 use Rattle.journal.proofs.last_count as journal_last_count
 use Rattle.lent.proofs.elsterkabel_version as lent_elsterkabel_version
 use Rattle.lent.proofs.elsterkabel_word_of as lent_elsterkabel_word_of
-use Rattle.rules.proofs.level.LevelFromU8.from as rules_level_from
+use Rattle.rules.proofs.level.LevelTryFromU8.try_from as rules_level_try_from
+use Rattle.rules.proofs.facts.Facts.exception_level as rules_exception_level
 use Rattle.registers.proofs.register.Register.named_by as registers_named_by
 use Rattle.registers.proofs.is_mrs as registers_is_mrs
 use Rattle.registers.proofs.rt as registers_rt
@@ -61,7 +62,8 @@ pub record EachLearnt : Type 0 where
   pub last_count : OneResult 1 journal_last_count.Kinds.ps journal_last_count.Kinds.r journal_last_count.Reads.Learnt
   pub elsterkabel_version : OneResult 0 lent_elsterkabel_version.Kinds.ps lent_elsterkabel_version.Kinds.r lent_elsterkabel_version.Reads.Learnt
   pub elsterkabel_word_of : OneResult 0 lent_elsterkabel_word_of.Kinds.ps lent_elsterkabel_word_of.Kinds.r lent_elsterkabel_word_of.Reads.Learnt
-  pub level_from : OneResult 0 rules_level_from.Kinds.ps rules_level_from.Kinds.r rules_level_from.Reads.Learnt
+  pub level_try_from : OneResult 0 rules_level_try_from.Kinds.ps rules_level_try_from.Kinds.r rules_level_try_from.Reads.Learnt
+  pub exception_level : OneResult 0 rules_exception_level.Kinds.ps rules_exception_level.Kinds.r rules_exception_level.Reads.Learnt
   pub named_by : OneResult 0 registers_named_by.Kinds.ps registers_named_by.Kinds.r registers_named_by.Reads.Learnt
   pub is_mrs : OneResult 0 registers_is_mrs.Kinds.ps registers_is_mrs.Kinds.r registers_is_mrs.Reads.Learnt
   pub rt : OneResult 0 registers_rt.Kinds.ps registers_rt.Kinds.r registers_rt.Reads.Learnt
@@ -91,7 +93,8 @@ each_learnt =
       last_count = each_promise.last_count;
       elsterkabel_version = each_promise.elsterkabel_version;
       elsterkabel_word_of = each_promise.elsterkabel_word_of;
-      level_from = each_promise.level_from;
+      level_try_from = each_promise.level_try_from;
+      exception_level = each_promise.exception_level;
       named_by = each_promise.named_by;
       is_mrs = each_promise.is_mrs;
       rt = each_promise.rt;

@@ -14,7 +14,8 @@ use Rattle.journal.specs.contracts.run as journal_run
 use Rattle.journal.specs.contracts.last_count as journal_last_count
 use Rattle.lent.specs.contracts.elsterkabel_version as lent_elsterkabel_version
 use Rattle.lent.specs.contracts.elsterkabel_word_of as lent_elsterkabel_word_of
-use Rattle.rules.specs.contracts.level.LevelFromU8.from as rules_level_from
+use Rattle.rules.specs.contracts.level.LevelTryFromU8.try_from as rules_level_try_from
+use Rattle.rules.specs.contracts.facts.Facts.exception_level as rules_exception_level
 use Rattle.registers.specs.contracts.register.Register.named_by as registers_named_by
 use Rattle.registers.specs.contracts.is_mrs as registers_is_mrs
 use Rattle.registers.specs.contracts.rt as registers_rt
@@ -61,7 +62,8 @@ pub record EachPromise : Type 0 where
   pub last_count : OneResult journal_last_count.ended (λ m. journal_last_count.clauses m.𝓛 m.mem m.run) (λ m κs a g x e. refl)
   pub elsterkabel_version : OneResult lent_elsterkabel_version.ended (λ m. lent_elsterkabel_version.clauses m.𝓛 m.mem m.run) (λ m κs a g x e. refl)
   pub elsterkabel_word_of : OneResult lent_elsterkabel_word_of.ended (λ m. lent_elsterkabel_word_of.clauses m.𝓛 m.mem m.run) (λ m κs a g x e. refl)
-  pub level_from : OneResult rules_level_from.ended (λ m. rules_level_from.clauses m.𝓛 m.mem m.run) (λ m κs a g x e. refl)
+  pub level_try_from : OneResult rules_level_try_from.ended (λ m. rules_level_try_from.clauses m.𝓛 m.mem m.run) (λ m κs a g x e. refl)
+  pub exception_level : OneResult rules_exception_level.ended (λ m. rules_exception_level.clauses m.𝓛 m.mem m.run) (λ m κs a g x e. refl)
   pub named_by : OneResult registers_named_by.ended (λ m. registers_named_by.clauses m.𝓛 m.mem m.run) (λ m κs a g x e. refl)
   pub is_mrs : OneResult registers_is_mrs.ended (λ m. registers_is_mrs.clauses m.𝓛 m.mem m.run) (λ m κs a g x e. refl)
   pub rt : OneResult registers_rt.ended (λ m. registers_rt.clauses m.𝓛 m.mem m.run) (λ m κs a g x e. refl)

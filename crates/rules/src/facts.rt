@@ -10,8 +10,8 @@ pub struct Cntkctl {
     pub el0pten: bool,
 }
 
-// The bits of CNTHCTL_EL2, each from its own place; `el1pcten` has two, of which E2H picks one. A rule asks a name that only
-// one layout has with that E2H alone.
+// The bits of CNTHCTL_EL2, each from its own place; `el1pcten` has two, of which E2H picks one. A bit that only one layout has is read
+// by rules of that E2H alone. Four are named as CNTKCTL's are, and are others: the paper lists each register's.
 #[derive(Clone, Copy, Debug, PartialEq, Eq)]
 pub struct Cnthctl {
     pub el0pcten: bool,
@@ -49,7 +49,7 @@ impl Facts {
     ghost use Rattle.std.specs.Prelude.{◌≡◌};
     ghost use Rattle.rules.specs.Levels.{level_of};
 
-    // Above 3 it is EL3, as the rules have it.
+    // Above 3 it is EL3, as the rules have it; such a level has got 5 before.
     pub fn exception_level(self) -> Level
         ensures { result ≡ level_of self.level }
     {

@@ -43,6 +43,7 @@ pub enum TimerName {
     Cnthvs,
 }
 
+// Six fields and no array, here and in `Lines`: C has them by their names.
 #[repr(C)]
 #[derive(Clone, Copy, Debug, PartialEq, Eq)]
 pub struct Timers {
