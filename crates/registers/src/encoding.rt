@@ -7,7 +7,7 @@ ghost use Rattle.rules.specs.Names.{is_mrs_or_msr};
 use crate::word::is_mrs_or_msr;
 
 // As wide as the word that has them.
-#[derive(Clone, Copy, PartialEq, Eq)]
+#[derive(Clone, Copy, Debug, PartialEq, Eq)]
 pub struct Encoding {
     pub op0: u32,
     pub op1: u32,
