@@ -23,7 +23,7 @@ impl Register {
     pub fn named_by(word: u32) -> Option<Name>
         ensures { result ≡ name_of word }
     {
-        let encoding = Encoding::of_word(word)?;
+        let encoding = Encoding::from_word(word)?;
         let register = Register::look_up(&Register::ALL, encoding)?;
         Some(register.name)
     }
