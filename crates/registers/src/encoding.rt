@@ -22,17 +22,13 @@ impl Encoding {
     pub(crate) fn from_word(word: u32) -> Option<Encoding>
         ensures { result ≡ (if is_mrs_or_msr word then Some (encoding_of word) else None) }
     {
-        if is_mrs_or_msr(word) {
-            Some(Encoding {
-                op0: bits(word, 19, 19) + 2,
-                op1: bits(word, 18, 16),
-                crn: bits(word, 15, 12),
-                crm: bits(word, 11, 8),
-                op2: bits(word, 7, 5),
-            })
-        } else {
-            None
-        }
+        is_mrs_or_msr(word).then(|| Encoding {
+            op0: bits(word, 19, 19) + 2,
+            op1: bits(word, 18, 16),
+            crn: bits(word, 15, 12),
+            crm: bits(word, 11, 8),
+            op2: bits(word, 7, 5),
+        })
     }
 
     // op0 has both of its bits here: the trap may be of another instruction.
