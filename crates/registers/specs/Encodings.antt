@@ -1,5 +1,5 @@
 -- A register's five numbers as a word and as a syndrome has them, and the word that they make.
-use Rattle.std.specs.Prelude.{ℕ, ◌<◌, ◌+◌, ◌*◌, ◌^◌}
+use Rattle.std.specs.Prelude.{ℕ, ◌<◌, ◌+◌, ◌*◌, ◌^◌, Bool, if◌then◌else◌}
 use Rattle.registers.specs.declared.encoding.Encoding.{Encoding}
 use Rattle.rules.specs.Bits.{bits}
 use Rattle.rules.specs.Names.{op0_of, op1_of, crn_of, crm_of, op2_of}
@@ -11,8 +11,7 @@ abbrev pub encoding_of_syndrome : ℕ → Encoding
 encoding_of_syndrome iss = record { op0 = bits 21 20 iss; op1 = bits 16 14 iss; crn = bits 13 10 iss; crm = bits 4 1 iss; op2 = bits 19 17 iss }
 
 -- each number fits the bits that an MRS or MSR has for it
-pub record FitsWord (e : Encoding) (mrs rt : ℕ) : Type 0 where
-  pub mrs_fits : mrs < 2
+pub record FitsWord (e : Encoding) (rt : ℕ) : Type 0 where
   pub op0_fits : e.op0 < 4
   pub op1_fits : e.op1 < 8
   pub crn_fits : e.crn < 16
@@ -21,10 +20,10 @@ pub record FitsWord (e : Encoding) (mrs rt : ℕ) : Type 0 where
   pub rt_fits : rt < 32
 
 -- bits 31..22 of an MRS or MSR, the direction, op0, op1, CRn, CRm, op2, Rt
-abbrev pub word_with : Encoding → ℕ → ℕ → ℕ
+abbrev pub word_with : Encoding → Bool → ℕ → ℕ
 word_with e mrs rt =
     0b1101010100 * 2 ^ 22
-    + mrs * 2 ^ 21
+    + (if mrs then 2 ^ 21 else 0)
     + e.op0 * 2 ^ 19
     + e.op1 * 2 ^ 16
     + e.crn * 2 ^ 12

@@ -4,10 +4,11 @@ ghost use Rattle.std.specs.Prelude.{◌≡◌, if◌then◌else◌, None, Some};
 ghost use Rattle.registers.specs.Encodings.{FitsWord, encoding_of, encoding_of_syndrome, word_with};
 ghost use Rattle.rules.specs.Names.{is_mrs_or_msr};
 
+use crate::bits::bits;
 use crate::word::is_mrs_or_msr;
 
 // As wide as the word that has them.
-#[derive(Clone, Copy, PartialEq, Eq)]
+#[derive(Clone, Copy, Debug, PartialEq, Eq)]
 pub struct Encoding {
     pub op0: u32,
     pub op1: u32,
@@ -18,47 +19,43 @@ pub struct Encoding {
 
 impl Encoding {
     // Only an MRS or MSR has one.
-    pub(crate) fn of_word(word: u32) -> Option<Encoding>
+    pub(crate) fn from_word(word: u32) -> Option<Encoding>
         ensures { result ≡ (if is_mrs_or_msr word then Some (encoding_of word) else None) }
     {
-        if is_mrs_or_msr(word) {
-            Some(Encoding {
-                op0: (word >> 19) % 2 + 2,
-                op1: (word >> 16) % 8,
-                crn: (word >> 12) % 16,
-                crm: (word >> 8) % 16,
-                op2: (word >> 5) % 8,
-            })
-        } else {
-            None
-        }
+        is_mrs_or_msr(word).then(|| Encoding {
+            op0: bits(word, 19, 19) + 2,
+            op1: bits(word, 18, 16),
+            crn: bits(word, 15, 12),
+            crm: bits(word, 11, 8),
+            op2: bits(word, 7, 5),
+        })
     }
 
     // op0 has both of its bits here: the trap may be of another instruction.
-    pub(crate) fn of_syndrome(iss: u32) -> Encoding
+    pub(crate) fn from_syndrome(iss: u32) -> Encoding
         ensures { result ≡ encoding_of_syndrome iss }
     {
         Encoding {
-            op0: (iss >> 20) % 4,
-            op1: (iss >> 14) % 8,
-            crn: (iss >> 10) % 16,
-            crm: (iss >> 1) % 16,
-            op2: (iss >> 17) % 8,
+            op0: bits(iss, 21, 20),
+            op1: bits(iss, 16, 14),
+            crn: bits(iss, 13, 10),
+            crm: bits(iss, 4, 1),
+            op2: bits(iss, 19, 17),
         }
     }
 
-    // The direction is 1 for MRS.
-    pub(crate) fn word(self, mrs: u32, rt: u32) -> u32
-        requires { FitsWord self mrs rt }
+    // The higher bit of op0 is bit 20, which is 1 in an MRS or MSR alone.
+    pub(crate) fn to_word(self, mrs: bool, rt: u32) -> u32
+        requires { FitsWord self rt }
         ensures { result ≡ word_with self mrs rt }
     {
-        0xD5000000
-            + mrs * 0x200000
-            + self.op0 * 0x80000
-            + self.op1 * 0x10000
-            + self.crn * 0x1000
-            + self.crm * 0x100
-            + self.op2 * 0x20
+        (0b1101010100 << 22)
+            + (u32::from(mrs) << 21)
+            + (self.op0 << 19)
+            + (self.op1 << 16)
+            + (self.crn << 12)
+            + (self.crm << 8)
+            + (self.op2 << 5)
             + rt
     }
 }

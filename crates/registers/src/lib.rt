@@ -1,6 +1,7 @@
 // From an instruction word to the name of a timer register, its direction and its Rt; and from a syndrome to the word.
 #![tactic(auto)]
 
+mod bits;
 mod encoding;
 mod lookup;
 mod register;

@@ -2,20 +2,22 @@
 ghost use Rattle.std.specs.Prelude.{◌≡◌};
 ghost use Rattle.rules.specs.Names.{is_mrs_or_msr, is_mrs, rt_of};
 
+use crate::bits::{bit, bits};
+
 pub fn is_mrs_or_msr(word: u32) -> bool
     ensures { result ≡ is_mrs_or_msr word }
 {
-    ((word >> 22) % 1024 == 0b1101010100) & ((word >> 20) % 2 == 1)
+    bits(word, 31, 22) == 0b1101010100 && bit(word, 20)
 }
 
 pub fn is_mrs(word: u32) -> bool
     ensures { result ≡ is_mrs word }
 {
-    (word >> 21) % 2 == 1
+    bit(word, 21)
 }
 
 pub fn rt(word: u32) -> u8
     ensures { result ≡ rt_of word }
 {
-    (word % 32) as u8
+    bits(word, 4, 0) as u8
 }

@@ -1,0 +1,17 @@
+// The bits of a word, by the numbers that the paper gives them.
+ghost use Rattle.std.specs.Prelude.{◌≡◌, ◌≤◌, ◌<◌, ◌-◌};
+ghost use Rattle.rules.specs.Bits.{bits, bit};
+
+pub fn bits(word: u32, high: u32, low: u32) -> u32
+    requires { (low ≤ high) × (high < 32) × (high - low < 31) }
+    ensures { result ≡ bits high low word }
+{
+    (word >> low) % (1 << (high - low + 1))
+}
+
+pub fn bit(word: u32, k: u32) -> bool
+    requires { k < 32 }
+    ensures { result ≡ bit k word }
+{
+    bits(word, k, k) == 1
+}
