@@ -1,28 +1,30 @@
 -- A record is read out of 24 bytes that stand alone, as it stands in the journal at its place.
 -- Assumes nothing.
 use Rattle.std.proofs.Common.{◌≡◌, ℕ, zero, suc, ◌+◌, ◌-◌, ◌*◌, ◌≤◌, ◌<◌, List, [], length, get_or, take, drop, refl, sym, ap, ◌∙◌, arith}
-use Rattle.std.proofs.lemmas.List.{get_or-take, get_or-drop, take_rest}
+use Rattle.std.proofs.lemmas.List.{take_rest}
+use Rattle.std.proofs.lemmas.Simd.{get_or-chunk}
 use Rattle.std.proofs.Math.Seq.{drop-drop}
 use Rattle.std.specs.Simd.{first_chunks}
 use Rattle.rules.specs.declared.record.Record.{Record}
 use Rattle.rules.specs.Journal.{record_at}
-use Rattle.rules.specs.Packing.{word_at}
+use Rattle.rules.specs.Packing.{half_at, word_at}
 
--- a record that stands alone is what it was at its place in the journal
-word_moved : (l journal : List ℕ) (at k m : ℕ) → ((i n : ℕ) → i < 24 → n ≡ at + i → get_or l i 0 ≡ get_or journal n 0) → k + 8 ≤ 24 → m ≡ at + k → word_at l k ≡ word_at journal m
-word_moved l journal at k m byte h e =
-    cc (byte k m (omega arith) (omega arith), byte (k + 1) (m + 1) (omega arith) (omega arith), byte (k + 2) (m + 2) (omega arith) (omega arith), byte (k + 3) (m + 3) (omega arith) (omega arith), byte (k + 4) (m + 4) (omega arith) (omega arith), byte (k + 4 + 1) (m + 4 + 1) (omega arith) (omega arith), byte (k + 4 + 2) (m + 4 + 2) (omega arith) (omega arith), byte (k + 4 + 3) (m + 4 + 3) (omega arith) (omega arith))
+-- a byte, and so a half word and a word, of 24 bytes that stand alone is what it was at its place in the journal
+module _ (journal : List ℕ) (at : ℕ) where
+  byte : (k m : ℕ) → k < 24 → m ≡ at + k → get_or (take 24 (drop at journal)) k 0 ≡ get_or journal m 0
+  byte k m h e = get_or-chunk at 24 journal k 0 h ∙ ap (λ (n : ℕ). get_or journal n 0) (sym e)
 
--- the record at a place, and the chunk at an index
-record_moved : (journal : List ℕ) (at : ℕ) → record_at (take 24 (drop at journal)) 0 ≡ record_at journal at
-unfolding record_at
-record_moved journal at =
-    let l : List ℕ = take 24 (drop at journal) in
-    let byte : (i n : ℕ) → i < 24 → n ≡ at + i → get_or l i 0 ≡ get_or journal n 0 = λ i n h e. get_or-take 24 (drop at journal) i 0 h ∙ get_or-drop at journal i 0 ∙ ap (λ (k : ℕ). get_or journal k 0) (sym e) in
-    let head : word_at l 0 ≡ word_at journal at = word_moved l journal at 0 at byte (omega arith) (omega arith) in
-    let operand : word_at l 8 ≡ word_at journal (at + 8) = word_moved l journal at 8 (at + 8) byte (omega arith) refl in
-    let count : word_at l 16 ≡ word_at journal (at + 16) = word_moved l journal at 16 (at + 16) byte (omega arith) refl in
-    rw (head, operand, count)
+  half_moved : (k m : ℕ) → k + 4 ≤ 24 → m ≡ at + k → half_at (take 24 (drop at journal)) k ≡ half_at journal m
+  half_moved k m h e =
+      cc (byte k m (omega arith) e, byte (k + 1) (m + 1) (omega arith) (omega arith), byte (k + 2) (m + 2) (omega arith) (omega arith), byte (k + 3) (m + 3) (omega arith) (omega arith))
+
+  word_moved : (k m : ℕ) → k + 8 ≤ 24 → m ≡ at + k → word_at (take 24 (drop at journal)) k ≡ word_at journal m
+  word_moved k m h e = cc (half_moved k m (omega arith) e, half_moved (k + 4) (m + 4) (omega arith) (omega arith))
+
+  -- the record at a place, and the chunk at an index
+  record_moved : record_at (take 24 (drop at journal)) 0 ≡ record_at journal at
+  unfolding record_at
+  record_moved = rw (word_moved 0 at (omega arith) (omega arith), word_moved 8 (at + 8) (omega arith) refl, word_moved 16 (at + 16) (omega arith) refl) refl
 
 nth_record : (n k : ℕ) (journal : List ℕ) (i : ℕ) → i < k → get_or (first_chunks n k journal) i [] ≡ take n (drop (i * n) journal)
 nth_record n zero journal i h = absurd (omega arith)

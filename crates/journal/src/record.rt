@@ -40,20 +40,21 @@ pub(crate) fn serve(s: State, r: Record) -> Outcome
 fn head_of(number: u8, rt: u8) -> u64
     ensures { result ≡ packed (field 4 number ∷ field 5 rt ∷ field 55 0 ∷ []) }
 {
-    (u64::from(number) % 16 * 32 + u64::from(rt) % 32) * 0x80_0000_0000_0000
+    (u64::from(number) % 16 * 32 + u64::from(rt) % 32) << 55
 }
 
-// A slice and no array: of a buffer whose part was lent on by `as_mut_array` a proof knows no more than its length.
+// A slice and no array: in the run's loop the search finds no proof through the loan of `as_mut_array`, nor of `first_chunk_mut`.
+#[tactic(auto, unfolding(rules::specs::Journal::answer_bytes), using(crate::proofs::Words::word_written, crate::proofs::Words::field_written))]
 pub(crate) fn pack(part: &mut [u8], a: Answer)
     requires { length part.old ≡ record_bytes }
     ensures { part.new ≡ answer_bytes a }
 {
-    let head = head_of(a.number, a.rt).to_be_bytes();
-    let value = a.value.to_be_bytes();
-    let mask = a.mask.to_be_bytes();
-    part[0..8].copy_from_slice(&head);
-    part[8..16].copy_from_slice(&value);
-    part[16..24].copy_from_slice(&mask);
+    let words = [
+        head_of(a.number, a.rt).to_be_bytes(),
+        a.value.to_be_bytes(),
+        a.mask.to_be_bytes(),
+    ];
+    part.copy_from_slice(words.as_flattened());
 }
 
 // A record ends with its count.
@@ -61,8 +62,7 @@ pub(crate) fn pack(part: &mut [u8], a: Answer)
 pub fn last_count(journal: &[u8]) -> u64
     ensures { result ≡ last_count journal.now }
 {
-    match journal.last_chunk() {
-        Some(record) => read_record(record).access.count,
-        None => 0,
-    }
+    journal
+        .last_chunk()
+        .map_or(0, |record| read_record(record).access.count)
 }

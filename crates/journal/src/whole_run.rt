@@ -4,7 +4,7 @@ ghost use Rattle.rules.specs.Journal.{run_of, buffer_after};
 ghost use Rattle.journal.specs.Runs.{IsRun, IsRefused, run_done, run_refused};
 
 use crate::record::{pack, read_record, serve};
-use rules::{RECORD_BYTES, RECORD_LIMIT, Refusal, Run, State};
+use rules::{DONE, RECORD_BYTES, RECORD_LIMIT, Refusal, Run, State};
 
 // A journal's records, where it may be run with such a buffer: 7 comes before 8.
 fn records_of<'a>(journal: &'a [u8], answers: &[u8]) -> Result<&'a [[u8; RECORD_BYTES]], Refusal>
@@ -20,8 +20,8 @@ fn records_of<'a>(journal: &'a [u8], answers: &[u8]) -> Result<&'a [[u8; RECORD_
     Ok(records)
 }
 
-// The state after the last record. Each answer is put at its place by index: of a buffer that `chunks_exact_mut` lent out a proof
-// knows no more than its length.
+// The state after the last record. The part of each answer is lent by its place, as the paper asks (RULES, 'Expected forms by
+// place'); of a buffer that `chunks_exact_mut` lent out a proof knows no more than its length, too.
 #[tactic(auto, unfolding(rules::specs::Journal::run_of, rules::specs::Journal::buffer_after, rules::specs::Journal::state_after, rules::specs::Journal::answers_of))]
 fn serve_all(s: State, journal: &[u8], answers: &mut [u8]) -> Result<State, Refusal>
     ensures value { MatchResult result (λ next. run_of s journal.now answers.old ≡ run_done next) (λ refusal. run_of s journal.now answers.old ≡ run_refused s refusal) }
@@ -44,7 +44,7 @@ pub fn run(s: State, journal: &[u8], answers: &mut [u8]) -> Run
     ensures answers_after { answers.new ≡ buffer_after s journal.now answers.old }
 {
     match serve_all(s, journal, answers) {
-        Ok(next) => Run { number: 0, next },
+        Ok(next) => Run { number: DONE, next },
         Err(refusal) => Run {
             number: refusal as u8,
             next: s,
