@@ -7,6 +7,7 @@ ghost use Rattle.journal.specs.Last.{last_count};
 use desk::{access, as_before, refused};
 use rules::{Access, Answer, Outcome, RECORD_BYTES, Record, Refusal, State};
 
+// No `From`: the type is of `rules`, which knows no bytes.
 #[tactic(auto, unfolding(rules::specs::Journal::record_at))]
 pub(crate) fn read_record(bytes: &[u8; RECORD_BYTES]) -> Record
     ensures { result ≡ record_at bytes.now 0 }

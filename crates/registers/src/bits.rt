@@ -3,7 +3,9 @@ ghost use Rattle.std.specs.Prelude.{◌≡◌, ◌≤◌, ◌<◌, ◌-◌};
 ghost use Rattle.rules.specs.Bits.{bits, bit};
 
 pub fn bits(word: u32, high: u32, low: u32) -> u32
-    requires { (low ≤ high) × (high < 32) × (high - low < 31) }
+    requires in_order { low ≤ high }
+    requires in_word { high < 32 }
+    requires narrower { high - low < 31 }
     ensures { result ≡ bits high low word }
 {
     (word >> low) % (1 << (high - low + 1))

@@ -18,7 +18,7 @@ pub struct Encoding {
 }
 
 impl Encoding {
-    // Only an MRS or MSR has one.
+    // Only an MRS or MSR has one. No `TryFrom`, since a syndrome is a u32 too.
     pub(crate) fn from_word(word: u32) -> Option<Encoding>
         ensures { result ≡ (if is_mrs_or_msr word then Some (encoding_of word) else None) }
     {
