@@ -27,7 +27,12 @@ impl Moment {
             Target::Cntvoff => known(state.cntvoff),
             Target::Timer(name, part) => {
                 let timer = get(state.timers, name);
-                read_timer(timer, part, self.used_count(name), self.condition_count(name))
+                read_timer(
+                    timer,
+                    part,
+                    self.used_count(name),
+                    self.condition_count(name),
+                )
             }
             Target::Cntkctl => known(u64::from(state.controls.cntkctl)),
             Target::Cnthctl => known(u64::from(state.controls.cnthctl)),
