@@ -1,4 +1,5 @@
-// The fields of CNTKCTL and CNTHCTL that are there, by the masks of RULES, 'Stored bits'; every other bit is 0.
+// The fields of CNTKCTL and CNTHCTL that are there, by the masks of RULES, 'Stored bits'; every other bit is 0. The mask
+// has made the cast fit, and `try_from` would be no plainer.
 ghost use Rattle.std.specs.Prelude.{◌≡◌};
 ghost use Rattle.rules.specs.Stored.{stored_cntkctl, stored_cnthctl};
 

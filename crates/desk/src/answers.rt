@@ -7,7 +7,7 @@ ghost use Rattle.desk.specs.Numbers.{stop_number};
 use registers::rt;
 use rules::{Answer, DONE, Outcome, State, Stop, Value};
 
-// 0 to 3 and 10 give the word's Rt.
+// 0 to 3 and 10 give the word's Rt. The number is a byte, as `Answer` has it for C.
 fn answered(number: u8, word: u32, value: u64, mask: u64) -> Answer
     ensures { result ≡ rule.answered number word value mask }
 {

@@ -8,6 +8,7 @@ use gates::offset_on;
 use rules::{DONE, Lines, Refusal, State, TimerName};
 use timers::{count_of, get, raised};
 
+// The number is a byte, as `Lines` has it for C.
 fn lines_by<F: Fn(TimerName) -> bool>(number: u8, line: F) -> Lines
     requires { F.IsAlwaysCallable line }
     ensures number { result.number ≡ number }
@@ -24,6 +25,7 @@ fn lines_by<F: Fn(TimerName) -> bool>(number: u8, line: F) -> Lines
     }
 }
 
+// By state and count, since the question has no level, and so no moment.
 #[tactic(auto, unfolding(rules::specs::Lines::lines_of, rules::specs::Lines::line_of))]
 pub fn lines(s: State, physical: u64) -> Lines
     ensures { result ≡ lines_of s physical }

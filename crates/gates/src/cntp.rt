@@ -19,7 +19,7 @@ pub fn denied(f: Facts) -> Stop
 }
 
 // The bits that the rules of a physical register read: `k_` is CNTKCTL's, the others are CNTHCTL's.
-#[derive(Clone, Copy)]
+#[derive(Clone, Copy, Debug, PartialEq, Eq)]
 pub struct PhysicalBits {
     pub k_el0pten: bool,
     pub el1pcen: bool,

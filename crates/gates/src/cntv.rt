@@ -12,7 +12,7 @@ use rules::{Facts, Part, Stop, Verdict};
 
 // The bits that the rules of a virtual register read: `k_` is CNTKCTL's, the others are CNTHCTL's. The timer's rule at EL1
 // asks ECV beside EL1TVT, and the counter's does not.
-#[derive(Clone, Copy)]
+#[derive(Clone, Copy, Debug, PartialEq, Eq)]
 pub struct VirtualBits {
     pub k_el0vten: bool,
     pub h_el0vten: bool,

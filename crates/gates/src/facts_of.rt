@@ -6,7 +6,7 @@ ghost use Rattle.rules.specs.Words as words;
 
 use rules::{Cnthctl, Cntkctl, Controls, Facts, Features, Level, State};
 
-// As in `registers`: no crate hands it out, since what is handed out asks nothing of its callers.
+// As in `registers`; no crate hands it out, since what is handed out asks nothing of its callers.
 fn bit(x: u32, k: u32) -> bool
     requires { k < 32 }
     ensures { result ≡ bit k x }

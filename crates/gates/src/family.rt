@@ -4,7 +4,7 @@ ghost use Rattle.std.specs.Prelude.{◌≡◌, Ok};
 use rules::{Facts, Level, Part, Target, TimerName};
 
 // The timer of the name, and EL2's own two that are reached in its place.
-#[derive(Clone, Copy)]
+#[derive(Clone, Copy, Debug, PartialEq, Eq)]
 pub struct Family {
     itself: TimerName,
     secure: TimerName,

@@ -7,7 +7,8 @@ ghost use Rattle.journal.specs.Last.{last_count};
 use desk::{access, as_before, refused};
 use rules::{Access, Answer, Outcome, RECORD_BYTES, Record, Refusal, State};
 
-// No `From`: the type is of `rules`, which knows no bytes.
+// No `From`: the type is of `rules`, which knows no bytes. A shift or a remainder has made each cast fit, and `try_from` would be no
+// plainer.
 #[tactic(auto, unfolding(rules::specs::Journal::record_at))]
 pub(crate) fn read_record(bytes: &[u8; RECORD_BYTES]) -> Record
     ensures { result ≡ record_at bytes.now 0 }
@@ -37,7 +38,7 @@ pub(crate) fn serve(s: State, r: Record) -> Outcome
     }
 }
 
-// The first word of an answer.
+// The first word of an answer; its number is a byte, as `Answer` has it for C.
 fn head_of(number: u8, rt: u8) -> u64
     ensures { result ≡ packed (field 4 number ∷ field 5 rt ∷ field 55 0 ∷ []) }
 {

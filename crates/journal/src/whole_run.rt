@@ -21,7 +21,7 @@ fn records_of<'a>(journal: &'a [u8], answers: &[u8]) -> Result<&'a [[u8; RECORD_
 }
 
 // The state after the last record. The part of each answer is lent by its place, as the paper asks (RULES, 'Expected forms by
-// place'); of a buffer that `chunks_exact_mut` lent out a proof knows no more than its length, too.
+// place'); of a buffer that `chunks_exact_mut` lent out a proof knows no more than its length.
 #[tactic(auto, unfolding(rules::specs::Journal::run_of, rules::specs::Journal::buffer_after, rules::specs::Journal::state_after, rules::specs::Journal::answers_of))]
 fn serve_all(s: State, journal: &[u8], answers: &mut [u8]) -> Result<State, Refusal>
     ensures value { MatchResult result (λ next. run_of s journal.now answers.old ≡ run_done next) (λ refusal. run_of s journal.now answers.old ≡ run_refused s refusal) }

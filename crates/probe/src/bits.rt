@@ -75,6 +75,7 @@ impl Packed for u8 {
     }
 
     fn write(self, bits: &mut Writer) {
+        // A byte's bits have no iterator.
         for place in (0..8u32).rev() {
             bits.bit((self >> place) & 1 == 1);
         }

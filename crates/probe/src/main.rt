@@ -51,7 +51,7 @@ fn answer(
 }
 
 fn main(rt: HostRuntime) -> io::Result<()> {
-    // Arrays and no Vec, so that the contracts of the heap are not assumed.
+    // Arrays and no Vec, so that the contracts of the heap are not assumed. Their length is cast: u64 has no `From<usize>`.
     let mut input = [0; ROOM];
     let mut answers = [0; ROOM];
     // `board` reads its input in the same two lines: a crate for them would be no plainer, and the libraries read no input.

@@ -1,4 +1,5 @@
-// The bits of a word, by the numbers that the paper gives them.
+// The bits of a word, by the numbers that the paper gives them. No crate hands them out, nor `bit` of `gates`, since what is handed out
+// asks nothing of its callers.
 ghost use Rattle.std.specs.Prelude.{◌≡◌, ◌≤◌, ◌<◌, ◌-◌};
 ghost use Rattle.rules.specs.Bits.{bits, bit};
 

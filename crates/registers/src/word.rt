@@ -16,6 +16,7 @@ pub fn is_mrs(word: u32) -> bool
     bit(word, 21)
 }
 
+// Five bits fit, and `try_from` would be no plainer.
 pub fn rt(word: u32) -> u8
     ensures { result ≡ rt_of word }
 {

@@ -1,7 +1,7 @@
 // The answers (RULES, 'What the desk answers').
 use crate::state::State;
 
-// The number of an answer that is no stop and no refusal.
+// The number of an answer that is no stop and no refusal: one number, and so no enum.
 pub const DONE: u8 = 0;
 
 // What a register reads as: its bits, those that are unknown given as 0, and the mask that names the unknown ones.

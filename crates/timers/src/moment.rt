@@ -8,7 +8,7 @@ use controls::{stored_cnthctl, stored_cntkctl};
 use rules::{Controls, Facts, State, Target, Value};
 
 // The facts are those of the state at the access's level. No invariant says so: `read` and `write` promise for any three.
-#[derive(Clone, Copy)]
+#[derive(Clone, Copy, Debug, PartialEq, Eq)]
 pub struct Moment {
     pub facts: Facts,
     pub state: State,

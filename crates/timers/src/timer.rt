@@ -46,6 +46,7 @@ pub fn read_timer(timer: Timer, part: Part, used: u64, condition: u64) -> Value
     }
 }
 
+// The mask has made the cast fit, and `try_from` would be no plainer.
 fn signed32(operand: u64) -> u64
     ensures { result ≡ signed32 operand }
 {
