@@ -3,7 +3,7 @@
 ghost use Rattle.std.specs.Prelude.{◌≡◌, ◌≤◌, ◌<◌, ◌-◌};
 ghost use Rattle.rules.specs.Bits.{bits, bit};
 
-pub fn bits(word: u32, high: u32, low: u32) -> u32
+pub(crate) fn bits(word: u32, high: u32, low: u32) -> u32
     requires in_order { low ≤ high }
     requires in_word { high < 32 }
     requires narrower { high - low < 31 }
@@ -12,7 +12,7 @@ pub fn bits(word: u32, high: u32, low: u32) -> u32
     (word >> low) % (1 << (high - low + 1))
 }
 
-pub fn bit(word: u32, k: u32) -> bool
+pub(crate) fn bit(word: u32, k: u32) -> bool
     requires { k < 32 }
     ensures { result ≡ bit k word }
 {
