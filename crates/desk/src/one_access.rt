@@ -1,8 +1,8 @@
 // One access, from word to answer and next state (RULES, 'What the desk answers').
 ghost use Rattle.std.specs.Prelude.{◌≡◌};
-ghost use Rattle.rules.specs.Names.{written_operand};
+ghost use Rattle.rules.specs.Names.{name_of, written_operand};
 ghost use Rattle.rules.specs.Access.{access_of};
-ghost use Rattle.desk.specs.Refused.{by_the_rules, named_or_refused};
+ghost use Rattle.desk.specs.Refused.{by_the_rules, named_or_refused, possible_name};
 
 use crate::answers::{as_before, done_read, done_write, refused, stopped};
 use crate::context::impossible_at;
@@ -40,7 +40,8 @@ fn by_the_rules(s: State, a: Access, name: Name) -> Outcome
 // The register that the word names: 4 and then 5 come before the rules.
 #[tactic(auto, unfolding(rules::specs::Access::served, rules::specs::Access::access_of))]
 fn named(s: State, a: Access) -> Result<Name, Refusal>
-    ensures { access_of s a ≡ named_or_refused s a result }
+    ensures value { result ≡ possible_name s a (name_of a.word) }
+    ensures answer { access_of s a ≡ named_or_refused s a result }
 {
     let name = Register::named_by(a.word).ok_or(Refusal::NotATimerAccess)?;
     if impossible_at(s, a.level) {
